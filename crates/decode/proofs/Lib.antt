@@ -1,0 +1,4 @@
+pub mod Agree
+pub mod Examples
+pub mod Loops
+pub mod Steps

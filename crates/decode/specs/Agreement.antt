@@ -1,0 +1,10 @@
+-- Demand 2: decoding equals WHATWG's wherever no failed escape swallows `+` or `%`. Proved in proofs/Agree.antt.
+use mathlib.Core.Path.{_≡_}
+use mathlib.Core.Bool.{true}
+use mathlib.Core.List.{List}
+use Prim.Native.Nat.{ℕ}
+use Rattle.decode.specs.Decoding.{decoded}
+use Rattle.decode.specs.Whatwg.{whatwg, noneSwallowed}
+
+abbrev pub Agreement : Type 0
+Agreement = (raw : List ℕ) → noneSwallowed raw ≡ true → decoded raw ≡ whatwg raw

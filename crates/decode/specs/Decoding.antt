@@ -1,0 +1,38 @@
+-- Document 01, 'Decoding': what a raw segment decodes to, what `decode` answers, and what it leaves in the output.
+use Prim.Native.Nat.{ℕ}
+use mathlib.Core.Bool.{Bool, cond}
+use mathlib.Core.List.{List, [], _∷_, _++_}
+use lib.Dec.{eqb, leb}
+use lib.ListN.{length, drop}
+use Rattle.decode.specs.declared.Decoded.{Decoded}
+use Rattle.decode.specs.declared.Decoded.the-variants.{Yes, No}
+use Rattle.decode.specs.Hex.{isHex, byteOf}
+
+-- "`+` becomes a space."
+abbrev pub plusToSpace : ℕ → ℕ
+plusToSpace b = cond (eqb b 43) 32 b
+
+-- "`%` with two hex digits, either case, becomes that byte. Otherwise the `%` stays and swallows unchanged the next byte if that
+-- isn't hex, or the next two if only the first is; at the end it swallows what there is." (% is 37.)
+unfoldable pub decoded : List ℕ → List ℕ
+decoded [] = []
+decoded (x ∷ []) = plusToSpace x ∷ []
+decoded (x ∷ y ∷ []) = cond (eqb x 37) (x ∷ y ∷ []) (plusToSpace x ∷ decoded (y ∷ []))
+decoded (x ∷ y ∷ z ∷ r) =
+    cond (eqb x 37)
+    (cond (isHex y)
+    (cond (isHex z) (byteOf y z ∷ decoded r) (x ∷ y ∷ z ∷ decoded r))
+    (x ∷ y ∷ decoded (z ∷ r)))
+    (plusToSpace x ∷ decoded (y ∷ z ∷ r))
+
+-- Whether the decoded bytes fit into the output.
+abbrev pub fitsIn : List ℕ → List ℕ → Bool
+fitsIn raw out = leb (length (decoded raw)) (length out)
+
+-- "it answers yes and the decoded length, or, exactly if the decoded bytes don't fit, no"
+abbrev pub answer : List ℕ → List ℕ → Decoded
+answer raw out = cond (fitsIn raw out) (Yes (length (decoded raw))) No
+
+-- What it leaves: the decoded bytes with the further ones "untouched", or after a no "the output unchanged".
+abbrev pub written : List ℕ → List ℕ → List ℕ
+written raw out = cond (fitsIn raw out) (decoded raw ++ drop (length (decoded raw)) out) out

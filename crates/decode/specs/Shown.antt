@@ -1,0 +1,19 @@
+-- Document 01, 'Decoding': "Text shown to a caller".
+use Prim.Native.Nat.{ℕ}
+use mathlib.Core.Bool.{Bool, true, false, cond}
+use mathlib.Core.List.{List, [], _∷_}
+use lib.Dec.{eqb}
+use lib.ListN.{take}
+
+-- Neither `+` (43) nor `%` (37).
+abbrev pub plain : ℕ → Bool
+plain b = cond (eqb b 43) false (cond (eqb b 37) false true)
+
+-- Whether bytes "hold neither `+` nor `%`".
+unfoldable pub allPlain : List ℕ → Bool
+allPlain [] = true
+allPlain (x ∷ xs) = cond (plain x) (allPlain xs) false
+
+-- "a part of the raw bytes where they hold neither `+` nor `%`, else the first bytes of the decoded buffer, as many as decoding answered"
+abbrev pub shownOf : List ℕ → List ℕ → ℕ → List ℕ
+shownOf raw decoded n = cond (allPlain raw) raw (take n decoded)

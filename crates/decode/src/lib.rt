@@ -1,0 +1,205 @@
+// Percent decoding of a raw segment, as the source's src/de/parse/decode.rs has it: `decode`, the by-value step `next_byte`, and `shown`,
+// which stands in for the source's `Cow`. The definitions are in specs/Decoding; specs/Agreement compares them with WHATWG's.
+// Below it stand only the laws.
+ghost use mathlib.Core.Path.{_≡_};
+ghost use mathlib.Core.List.{_++_};
+ghost use Prim.Native.Nat.{_<_, _≤_};
+ghost use lib.Dec.{leb};
+ghost use lib.ListN.{length, drop, getD};
+ghost use Rattle.decode.specs.Hex.{digitOf};
+ghost use Rattle.decode.specs.Decoding.{decoded, plusToSpace, answer, written};
+ghost use Rattle.decode.specs.Stepping.{Yields};
+ghost use Rattle.decode.specs.Shown.{allPlain, shownOf};
+
+// The answer of `decode`: the number of bytes written, or that they don't fit.
+pub enum Decoded {
+    Yes(usize),
+    No,
+}
+
+// One byte of the decoding, where the next is read, and how many raw bytes from there on are swallowed unchanged.
+pub struct NextByte {
+    pub byte: u8,
+    pub next: usize,
+    pub keep: usize,
+}
+
+// The value of a hex digit, and 16 for any other byte.
+fn char_to_hexdigit(b: u8) -> u8
+    ensures { λ r. ⌜ r ≡ digitOf b ⌝ }
+{
+    if b < b'0' {
+        16
+    } else if b <= b'9' {
+        b - b'0'
+    } else if b < b'A' {
+        16
+    } else if b <= b'F' {
+        b - b'A' + 10
+    } else if b < b'a' {
+        16
+    } else if b <= b'f' {
+        b - b'a' + 10
+    } else {
+        16
+    }
+}
+
+// The byte itself, but a space for a '+'.
+fn plus_to_space(b: u8) -> u8
+    ensures { λ r. ⌜ r ≡ plusToSpace b ⌝ }
+{
+    if b == b'+' { b' ' } else { b }
+}
+
+// The next byte of the decoding at a '%': the byte that its two hex digits name, or the '%' itself, which swallows the next byte or two.
+fn next_escape(raw: &[u8], i: usize) -> NextByte
+    requires { ⌜ (i < length (now raw)) × (getD (now raw) i 0 ≡ 37) ⌝ }
+    ensures { λ r. ⌜ Yields (now (raw .entry)) i 0 (r .byte) (r .next) (r .keep) ⌝ }
+{
+    let next = i + 1;
+    if raw.len() - i < 3 {
+        return NextByte {
+            byte: b'%',
+            next,
+            keep: 2,
+        };
+    }
+    let h = char_to_hexdigit(raw[i + 1]);
+    if 16 <= h {
+        return NextByte {
+            byte: b'%',
+            next,
+            keep: 1,
+        };
+    }
+    let l = char_to_hexdigit(raw[i + 2]);
+    if 16 <= l {
+        return NextByte {
+            byte: b'%',
+            next,
+            keep: 2,
+        };
+    }
+    NextByte {
+        byte: 16 * h + l,
+        next: i + 3,
+        keep: 0,
+    }
+}
+
+// The next byte of the decoding of `raw` at `i`, where `keep` bytes are still to be swallowed.
+pub fn next_byte(raw: &[u8], i: usize, keep: usize) -> NextByte
+    requires { ⌜ i < length (now raw) ⌝ }
+    ensures { λ r. ⌜ Yields (now (raw .entry)) i keep (r .byte) (r .next) (r .keep) ⌝ }
+{
+    let x = raw[i];
+    if 0 < keep {
+        return NextByte {
+            byte: x,
+            next: i + 1,
+            keep: keep - 1,
+        };
+    }
+    if x == b'%' {
+        return next_escape(raw, i);
+    }
+    let byte = plus_to_space(x);
+    NextByte {
+        byte,
+        next: i + 1,
+        keep: 0,
+    }
+}
+
+// The length of the decoded bytes.
+fn decoded_len(raw: &[u8]) -> usize
+    ensures { λ r. ⌜ r ≡ length (decoded (now (raw .entry))) ⌝ }
+{
+    let mut i = 0;
+    let mut keep = 0;
+    let mut n = 0;
+    while i < raw.len() {
+        let s = next_byte(raw, i, keep);
+        i = s.next;
+        keep = s.keep;
+        n += 1;
+    }
+    n
+}
+
+// Whether the decoded bytes are at most `size`. Decoding never lengthens, so raw bytes that fit need no count.
+pub fn fits(raw: &[u8], size: usize) -> bool
+    ensures { λ r. ⌜ r ≡ leb (length (decoded (now (raw .entry)))) size ⌝ }
+{
+    if raw.len() <= size {
+        return true;
+    }
+    let n = decoded_len(raw);
+    n <= size
+}
+
+// Writes the decoded bytes, which fit, and answers their number. Further bytes of `out` stay as they were.
+fn write(raw: &[u8], out: &mut [u8]) -> usize
+    requires { ⌜ length (decoded (now raw)) ≤ length (now out) ⌝ }
+    ensures length { λ r. ⌜ r ≡ length (decoded (now (raw .entry))) ⌝ }
+    ensures bytes { λ _. ⌜ now (out .exit) ≡ decoded (now (raw .entry)) ++ drop (length (decoded (now (raw .entry)))) (now (out .entry)) ⌝ }
+{
+    let mut i = 0;
+    let mut keep = 0;
+    let mut n = 0;
+    while i < raw.len() {
+        let s = next_byte(raw, i, keep);
+        out[n] = s.byte;
+        i = s.next;
+        keep = s.keep;
+        n += 1;
+    }
+    n
+}
+
+// Decodes `raw` into `out`: yes and the length, with the further bytes of `out` as they were; or, exactly if the decoded bytes
+// don't fit, no with `out` unchanged.
+pub fn decode(raw: &[u8], out: &mut [u8]) -> Decoded
+    ensures answer { λ r. ⌜ r ≡ answer (now (raw .entry)) (now (out .entry)) ⌝ }
+    ensures output { λ _. ⌜ now (out .exit) ≡ written (now (raw .entry)) (now (out .entry)) ⌝ }
+{
+    if fits(raw, out.len()) {
+        let n = write(raw, out);
+        Decoded::Yes(n)
+    } else {
+        Decoded::No
+    }
+}
+
+// Whether the bytes hold neither '+' nor '%': then they are their own decoding.
+fn is_plain(raw: &[u8]) -> bool
+    ensures { λ r. ⌜ r ≡ allPlain (now (raw .entry)) ⌝ }
+{
+    let mut i = 0;
+    while i < raw.len() {
+        let b = raw[i];
+        if b == b'+' {
+            return false;
+        }
+        if b == b'%' {
+            return false;
+        }
+        i += 1;
+    }
+    true
+}
+
+// Text shown to a caller: `raw` itself where it holds neither '+' nor '%', else the first `n` bytes of `decoded`, `n` being what decoding answered.
+pub fn shown<'a>(raw: &'a [u8], decoded: &'a [u8], n: usize) -> &'a [u8]
+    ensures { λ r. ⌜ now r ≡ shownOf (now (raw .entry)) (now (decoded .entry)) n ⌝ }
+{
+    if is_plain(raw) {
+        return raw;
+    }
+    if n <= decoded.len() {
+        &decoded[0..n]
+    } else {
+        decoded
+    }
+}

@@ -1,0 +1,37 @@
+-- Document 01, 'A key': the keys, and the key of a segment that isn't empty.
+use Prim.Native.Nat.{ℕ, _+_, _*_, _-_}
+use mathlib.Core.Bool.{Bool, true, cond, _&&_}
+use mathlib.Core.List.{List, [], _∷_}
+use lib.Dec.{leb}
+use Rattle.config.specs.declared.Config.{Config}
+use Rattle.decode.specs.Decoding.{decoded}
+
+-- `Key` of the source: "Int", or "a String, decoded".
+pub data Key : Type 0 where
+  int : ℕ → Key
+  str : List ℕ → Key
+
+abbrev pub isDigit : ℕ → Bool
+isDigit b = leb 48 b && leb b 57
+
+-- "digits only"
+unfoldable pub allDigits : List ℕ → Bool
+allDigits [] = true
+allDigits (b ∷ s) = isDigit b && allDigits s
+
+-- The value in base ten of digits that follow those of value v.
+unfoldable pub valueFrom : ℕ → List ℕ → ℕ
+valueFrom v [] = v
+valueFrom v (b ∷ s) = valueFrom (v * 10 + (b - 48)) s
+
+-- The greatest Int.
+abbrev pub maxInt : ℕ
+maxInt = 4294967295
+
+-- "Raw digits only, with value at most 4,294,967,295, is Int."
+abbrev pub isInt : Config → List ℕ → Bool
+isInt config s = allDigits s && leb (valueFrom 0 s) maxInt
+
+-- "Anything else is a String, decoded."
+abbrev pub keyOf : Config → List ℕ → Key
+keyOf config s = cond (isInt config s) (int (valueFrom 0 s)) (str (decoded s))

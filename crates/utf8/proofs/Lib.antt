@@ -1,0 +1,4 @@
+pub mod Decides
+pub mod Examples
+pub mod Loop
+pub mod Steps

@@ -1,0 +1,4 @@
+pub mod Decides
+pub mod Examples
+pub mod Grammar
+pub mod Test

@@ -1,0 +1,168 @@
+//! Decoding beside the URL Standard's (url.spec.whatwg.org): its worked examples, the inputs on
+//! which both agree, and those on which document 01 departs from it.
+
+mod common;
+
+use common::{every_string, Random, KINDS};
+
+/// How the standard's application/x-www-form-urlencoded parser takes a name or a value: each `+`
+/// becomes a space, then "percent-decode". A `%` without two hex digits is a byte like any other.
+fn whatwg(raw: &[u8]) -> Vec<u8> {
+    let input: Vec<u8> = raw
+        .iter()
+        .map(|&b| if b == b'+' { b' ' } else { b })
+        .collect();
+    let hex = |place: usize| (*input.get(place)? as char).to_digit(16);
+    let mut output = Vec::new();
+    let mut place = 0;
+    while place < input.len() {
+        match (input[place], hex(place + 1), hex(place + 2)) {
+            (b'%', Some(high), Some(low)) => {
+                output.push((high * 16 + low) as u8);
+                place += 3;
+            }
+            (byte, _, _) => {
+                output.push(byte);
+                place += 1;
+            }
+        }
+    }
+    output
+}
+
+/// Whether a `%` that starts no escape swallows a `+` or a `%` under document 01's rule.
+fn swallows_a_mark(raw: &[u8]) -> bool {
+    let mut rest = raw;
+    while let Some((&byte, after)) = rest.split_first() {
+        rest = after;
+        if byte != b'%' {
+            continue;
+        }
+        let digits = after
+            .iter()
+            .take(2)
+            .take_while(|b| b.is_ascii_hexdigit())
+            .count();
+        let (taken, untaken) = after.split_at(after.len().min(if digits == 0 { 1 } else { 2 }));
+        if digits < 2 && taken.iter().any(|b| b"+%".contains(b)) {
+            return true;
+        }
+        rest = untaken;
+    }
+    false
+}
+
+fn decoded(raw: &[u8]) -> Vec<u8> {
+    let mut out = vec![0; raw.len()];
+    let length = qs::decode(raw, &mut out).expect("decoded bytes are no more than raw ones");
+    out.truncate(length);
+    out
+}
+
+#[test]
+fn examples_on_which_both_agree() {
+    let examples: [(&str, &[u8]); 12] = [
+        // The URL Standard's examples of percent-decoding.
+        ("%25%s%1G", b"%%s%1G"),
+        ("‽%25%2E", b"\xE2\x80\xBD\x25\x2E"),
+        // Its examples of percent-encoding, read backwards; the last has spaces as '+'.
+        ("%E2%89%A1", b"\xE2\x89\xA1"),
+        ("Say%20what%E2%80%BD", b"Say what\xE2\x80\xBD"),
+        ("1+1+%81%DF+2%20%26%238253%3B", b"1 1 \x81\xDF 2 &#8253;"),
+        // web-platform-tests, url/urlencoded-parser.
+        ("%61+%4d%4D", b"a MM"),
+        ("%C2x", b"\xC2x"),
+        ("%2sf%2a", b"%2sf*"),
+        ("%", b"%"),
+        // '+' in its own place, escaped, and beside a space that is escaped.
+        ("+", b" "),
+        ("%2B", b"+"),
+        ("a+b%20c%2bd", b"a b c+d"),
+    ];
+    for (raw, meant) in examples {
+        assert_eq!(whatwg(raw.as_bytes()), meant, "{raw}, by the standard");
+        assert_eq!(decoded(raw.as_bytes()), meant, "{raw}, by the library");
+    }
+    println!("{} examples on which both agree", examples.len());
+}
+
+#[test]
+fn examples_on_which_document_01_departs() {
+    // Raw, as the standard has it, as document 01 has it.
+    let examples = [
+        ("%%41", "%A", "%%41"),
+        ("%+", "% ", "%+"),
+        ("%4+", "%4 ", "%4+"),
+        ("%4%41", "%4A", "%4%41"),
+        // web-platform-tests, url/urlencoded-parser.
+        ("%%2a", "%*", "%%2a"),
+        ("%2%2af%2a", "%2*f*", "%2%2af*"),
+    ];
+    for (raw, standard, document) in examples {
+        assert_eq!(
+            whatwg(raw.as_bytes()),
+            standard.as_bytes(),
+            "{raw}, by the standard"
+        );
+        assert_eq!(
+            decoded(raw.as_bytes()),
+            document.as_bytes(),
+            "{raw}, by the library"
+        );
+    }
+    println!("{} examples on which document 01 departs", examples.len());
+}
+
+/// Where no failed escape swallows a `+` or a `%`, both decode alike; elsewhere they may differ.
+#[derive(Default)]
+struct Beside {
+    alike: usize,
+    swallowed: usize,
+    different: usize,
+}
+
+impl Beside {
+    fn compare(&mut self, raw: &[u8]) {
+        let same = decoded(raw) == whatwg(raw);
+        if swallows_a_mark(raw) {
+            self.swallowed += 1;
+            self.different += usize::from(!same);
+        } else {
+            assert!(same, "'{}'", raw.escape_ascii());
+            self.alike += 1;
+        }
+    }
+
+    fn report(&self, what: &str) {
+        let Beside {
+            alike,
+            swallowed,
+            different,
+        } = self;
+        assert!(*alike > 0 && *different > 0);
+        println!("{what}: {alike} alike; '+' or '%' swallowed in {swallowed}, {different} differ");
+    }
+}
+
+#[test]
+fn short_strings() {
+    let mut beside = Beside::default();
+    every_string(KINDS, 5, |raw| beside.compare(raw));
+    beside.report("every string of up to 5 bytes over 12");
+}
+
+#[test]
+fn random_strings() {
+    let mut beside = Beside::default();
+    let mut random = Random::new(5);
+    for _ in 0..1_000_000 {
+        let length = random.below(41);
+        let alphabet: &[u8] = if random.below(2) == 0 {
+            KINDS
+        } else {
+            b"%+09afAFgzZ...."
+        };
+        beside.compare(&random.string(alphabet, length));
+    }
+    beside.report("random strings of up to 40 bytes");
+}
