@@ -1,0 +1,17 @@
+-- The tickets of document 01, decided by computing the definitions.
+use mathlib.Core.Path.{refl}
+use mathlib.Core.List.{flatten}
+use Rattle.decode.specs.Hex.{digitOf}
+use Rattle.decode.specs.Decoding.{decoded}
+use Rattle.key.specs.Keys.{allDigits, valueFrom}
+use Rattle.reading.specs.Reading.{reading}
+use Rattle.reading.specs.Starred.{StarredPass}
+use Rattle.reading.specs.Others.{OthersPass}
+
+pub starred-pass : StarredPass
+unfolding reading flatten decoded digitOf allDigits valueFrom
+starred-pass = refl
+
+pub others-pass : OthersPass
+unfolding reading flatten decoded digitOf allDigits valueFrom
+others-pass = refl

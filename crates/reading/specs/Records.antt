@@ -1,0 +1,84 @@
+-- Document 01, 'Settings and the lent buffers': the words of the records of a tree.
+use Prim.Native.Nat.{ℕ, zero, suc}
+use mathlib.Core.Bool.{cond}
+use mathlib.Core.List.{List, [], _∷_, _++_}
+use lib.Dec.{eqb}
+use lib.ListN.{length, replicate}
+use Rattle.config.specs.Limits.{recordWidth}
+use Rattle.reading.specs.Values.{Label, unkeyed, intKey, stringKey, Value, uninitialized, null, noValue, string, map, sequence, Forest, none, child}
+
+-- "0 kind: 0 Uninitialized, 1 Map, 2 Sequence, 3 String, 4 Null, 5 NoValue"
+abbrev pub kind : Value → ℕ
+kind uninitialized = 0
+kind (map children) = 1
+kind (sequence children) = 2
+kind (string o x) = 3
+kind null = 4
+kind noValue = 5
+
+-- "1 key kind: 0 none, 1 Int, 2 String"; "2 Int value or key's text offset (0 for an empty key); 3 key length (0 for Int); both 0 for key
+-- kind 0"
+abbrev pub keyWords : Label → List ℕ
+keyWords unkeyed = 0 ∷ 0 ∷ 0 ∷ []
+keyWords (intKey a) = 1 ∷ a ∷ 0 ∷ []
+keyWords (stringKey o x) = 2 ∷ o ∷ length x ∷ []
+
+-- "4, 5 value's text offset and length, both 0 unless String"
+abbrev pub textOffset : Value → ℕ
+textOffset uninitialized = 0
+textOffset (map children) = 0
+textOffset (sequence children) = 0
+textOffset (string o x) = o
+textOffset null = 0
+textOffset noValue = 0
+
+abbrev pub textLength : Value → ℕ
+textLength uninitialized = 0
+textLength (map children) = 0
+textLength (sequence children) = 0
+textLength (string o x) = length x
+textLength null = 0
+textLength noValue = 0
+
+-- "6 first child's record number, 7 next sibling's, 0 for none"
+abbrev pub first : Forest → ℕ
+first none = 0
+first (child number label value later) = number
+
+abbrev pub firstChild : Value → ℕ
+firstChild uninitialized = 0
+firstChild (map children) = first children
+firstChild (sequence children) = first children
+firstChild (string o x) = 0
+firstChild null = 0
+firstChild noValue = 0
+
+-- A record: its key, its value, its later siblings.
+abbrev pub recordWords : Label → Value → Forest → List ℕ
+recordWords label value later =
+    kind value ∷ keyWords label ++ (textOffset value ∷ textLength value ∷ firstChild value ∷ first later ∷ [])
+
+-- The record of number i among some children and all below them, else the default d.
+abbrev mutual
+  pub recordBelow : ℕ → Value → List ℕ → List ℕ
+  recordBelow i uninitialized d = d
+  recordBelow i null d = d
+  recordBelow i noValue d = d
+  recordBelow i (string o x) d = d
+  recordBelow i (map children) d = recordAmong i children d
+  recordBelow i (sequence children) d = recordAmong i children d
+
+  pub recordAmong : ℕ → Forest → List ℕ → List ℕ
+  recordAmong i none d = d
+  recordAmong i (child number label value later) d =
+      let elsewhere = recordBelow i value (recordAmong i later d) in
+      cond (eqb i number) (recordWords label value later) elsewhere
+
+-- k records from number i on. Every number below those used is found (proofs/Held: Held).
+abbrev pub recordsFrom : ℕ → ℕ → Forest → List ℕ
+recordsFrom zero i children = []
+recordsFrom (suc k) i children = recordAmong i children (replicate recordWidth 0) ++ recordsFrom k (suc i) children
+
+-- The words of a tree that uses so many records. "Record 0 is the root." It has no key and no sibling.
+abbrev pub layout : ℕ → Value → List ℕ
+layout used tree = recordsFrom used 0 (child 0 unkeyed tree none)
