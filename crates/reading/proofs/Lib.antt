@@ -14,6 +14,7 @@ pub mod Growing
 pub mod Lending
 pub mod Takings
 pub mod Outcomes
+pub mod Placed
 pub mod Unique
 pub mod Growth
 pub mod Space

@@ -15,6 +15,7 @@ pub mod Keeping
 pub mod Laid
 pub mod Shape
 pub mod Answers
+pub mod Placed
 pub mod TreeHeld
 pub mod Counts
 pub mod UniqueKeys

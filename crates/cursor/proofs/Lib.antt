@@ -1,0 +1,5 @@
+pub mod Segments
+pub mod Takings
+pub mod From
+pub mod Scans
+pub mod Collected

@@ -1,0 +1,21 @@
+// Scanning the input: the source's `next`, `collect_key` and `collect_value` (src/de/parse.rs), over a cursor that goes in and comes back
+// by value. What they answer is in specs/Takings, specs/Scans and specs/Collected; specs/From ties it to the reading.
+// Below it stand what an input means (reading), the key rule (key), decoding (decode), the settings (config) and laws.
+mod collecting;
+mod scanning;
+mod taking;
+
+pub use collecting::CollectedKey;
+pub use collecting::CollectedValue;
+pub use collecting::Key;
+pub use collecting::Leaf;
+pub use collecting::collect_key;
+pub use collecting::collect_value;
+pub use collecting::expect_key;
+pub use scanning::Until;
+pub use scanning::take_until;
+pub use taking::Cursor;
+pub use taking::Symbol;
+pub use taking::Taken;
+pub use taking::clear_acc;
+pub use taking::next;

@@ -1,0 +1,132 @@
+-- Lists of siblings: the loops along them, and where a search in one ends.
+use mathlib.Core.Path.{_≡_, refl, ap, sym, _∙_}
+use mathlib.Core.Logic.{_≢_}
+use mathlib.Core.List.{List, [], _∷_}
+use Prim.Native.Nat.{ℕ, zero, suc, _<_}
+use native.Mathlib.Omega.{arith}
+use lib.ListN.{length}
+use Rattle.records.specs.declared.keys.Ordering.{Ordering}
+use Rattle.records.specs.declared.keys.Ordering.the-variants.{Less, Equal, Greater}
+use Rattle.records.specs.declared.siblings.Place.the-variants.{Found, Between}
+use Rattle.records.specs.Words.{childWord, nextWord}
+use Rattle.records.specs.Store.{recordCount, word}
+use Rattle.records.specs.Siblings.{chain, children, lastOf, seek, Within, Ends, Linked}
+
+pub chain-end : (ws : List ℕ) (f : ℕ) → chain ws f 0 ≡ []
+unfolding chain
+chain-end ws zero = refl
+chain-end ws (suc f) = refl
+
+-- A chain that ends before its fuel is the same with more.
+chain-more : (ws : List ℕ) (f cur : ℕ) → length (chain ws f cur) < f → chain ws (suc f) cur ≡ chain ws f cur
+unfolding chain
+chain-more ws zero cur h = absurd (omega arith)
+chain-more ws (suc f) zero h = refl
+chain-more ws (suc f) (suc m) h = ap (λ (l : List ℕ). suc m ∷ l) (chain-more ws f (word ws (suc m) nextWord) (omega arith))
+
+chain-step : (ws : List ℕ) (f cur : ℕ) → cur ≢ 0 → length (chain ws f cur) < f → chain ws f cur ≡ cur ∷ chain ws f (word ws cur nextWord)
+unfolding chain
+chain-step ws zero cur n h = absurd (omega arith)
+chain-step ws (suc f) zero n h = absurd (n refl)
+chain-step ws (suc f) (suc m) n h = ap (λ (l : List ℕ). suc m ∷ l) (sym (chain-more ws f (word ws (suc m) nextWord) (omega arith)))
+
+-- A record of a list that ends, and the rest of the list.
+module _ (ws : List ℕ) {cur : ℕ} (e : Ends ws cur) (n : cur ≢ 0) where
+  step : chain ws (recordCount ws) cur ≡ cur ∷ chain ws (recordCount ws) (word ws cur nextWord)
+  step = chain-step ws (recordCount ws) cur n (e .1)
+
+  parts : Within 0 (recordCount ws) (cur ∷ chain ws (recordCount ws) (word ws cur nextWord))
+  parts = rw step at (e .0)
+
+  pub is-record : cur < recordCount ws
+  is-record = parts .1
+
+  pub chain-falls : length (chain ws (recordCount ws) (word ws cur nextWord)) < length (chain ws (recordCount ws) cur)
+  chain-falls = rw step (omega arith)
+
+  ends-next : Ends ws (word ws cur nextWord)
+  ends-next = (parts .2, omega (arith, chain-falls, e .1))
+
+-- The loop of `walk`: the place in the rest of the list is the place in the whole.
+pub record Walking (stands : ℕ → Ordering) (ws : List ℕ) (before start prev cur : ℕ) : Type 0 where
+  pub ends : Ends ws cur
+  pub so-far : seek stands prev (chain ws (recordCount ws) cur) ≡ seek stands before (chain ws (recordCount ws) start)
+
+module _ {stands : ℕ → Ordering} {ws : List ℕ} {before start prev cur : ℕ} (v : Walking stands ws before start prev cur) where
+  module _ (n : cur ≢ 0) where
+    on : seek stands prev (cur ∷ chain ws (recordCount ws) (word ws cur nextWord)) ≡ seek stands before (chain ws (recordCount ws) start)
+    on = rw (step ws (v .ends) n) at (v .so-far)
+
+    -- By the answer o of `compare_key`.
+    module _ {o : Ordering} (e : o ≡ stands cur) where
+      pub walking-on : o ≡ Less → Walking stands ws before start cur (word ws cur nextWord)
+      unfolding seek
+      walking-on f = record { ends = ends-next ws (v .ends) n; so-far = rw (sym e ∙ f) at on }
+
+      pub walking-found : o ≡ Equal → Found cur ≡ seek stands before (chain ws (recordCount ws) start)
+      unfolding seek
+      walking-found f = rw (sym e ∙ f) at on
+
+      pub walking-past : o ≡ Greater → Between prev cur ≡ seek stands before (chain ws (recordCount ws) start)
+      unfolding seek
+      walking-past f = rw (sym e ∙ f) at on
+
+  pub walking-end : cur ≡ 0 → Between prev 0 ≡ seek stands before (chain ws (recordCount ws) start)
+  unfolding seek
+  walking-end e = rw (e, chain-end ws (recordCount ws)) at (v .so-far)
+
+-- The loop of `last_child`.
+pub record Passing (ws : List ℕ) (parent prev cur : ℕ) : Type 0 where
+  pub ends : Ends ws cur
+  pub so-far : lastOf prev (chain ws (recordCount ws) cur) ≡ lastOf 0 (children ws parent)
+
+module _ {ws : List ℕ} {parent prev cur : ℕ} (v : Passing ws parent prev cur) where
+  pub passing-on : cur ≢ 0 → Passing ws parent cur (word ws cur nextWord)
+  passing-on n = record { ends = ends-next ws (v .ends) n; so-far = rw (step ws (v .ends) n) at (v .so-far) }
+
+  pub passing-end : cur ≡ 0 → prev ≡ lastOf 0 (children ws parent)
+  passing-end e = rw (e, chain-end ws (recordCount ws)) at (v .so-far)
+
+within-lower : (lo hi : ℕ) (ms : List ℕ) → Within lo hi ms → Within 0 hi ms
+within-lower lo hi [] h = tt
+within-lower lo hi (m ∷ ms) h = (omega arith, h .1, within-lower lo hi ms (h .2))
+
+last-within : (lo hi d : ℕ) (ms : List ℕ) → d < hi → Within lo hi ms → lastOf d ms < hi
+last-within lo hi d [] l h = l
+last-within lo hi d (m ∷ ms) l h = last-within lo hi m ms (h .1) (h .2)
+
+-- The children of a record.
+module _ {ws : List ℕ} (k : Linked ws) (n : ℕ) (l : n < recordCount ws) where
+  pub children-end : Ends ws (word ws n childWord)
+  children-end = (within-lower n (recordCount ws) (children ws n) (k .rising n l), k .ends n l)
+
+  pub passing-start : Passing ws n 0 (word ws n childWord)
+  passing-start = record { ends = children-end; so-far = refl }
+
+  pub last-inside : lastOf 0 (children ws n) < recordCount ws
+  last-inside = last-within n (recordCount ws) 0 (children ws n) (omega arith) (k .rising n l)
+
+-- A key is not at a child and between two.
+pub never-both : {A : Type 0} (m p x : ℕ) → Found m ≡ Between p x → A
+never-both m p x e = absurd (let z : _≡_ {A = ℕ} 0 1 = cc in omega arith)
+
+-- A place in a list of numbers between two bounds.
+pub found-within : (stands : ℕ → Ordering) (lo hi prev m : ℕ) (ms : List ℕ) → seek stands prev ms ≡ Found m → Within lo hi ms → (lo < m) × (m < hi)
+unfolding seek
+found-within stands lo hi prev m [] e h = never-both m prev 0 (sym e)
+found-within stands lo hi prev m (k ∷ ms) e h = go (stands k) refl (found-within stands lo hi k m ms)
+  where
+    go : (o : Ordering) → stands k ≡ o → (seek stands k ms ≡ Found m → Within lo hi ms → (lo < m) × (m < hi)) → (lo < m) × (m < hi)
+    go Less q ih = ih (rw q at e) (h .2)
+    go Equal q ih = let f : Found k ≡ Found m = rw q at e in let g : k ≡ m = cc in rw (← g) (h .0, h .1)
+    go Greater q ih = never-both m prev k (sym (rw q at e))
+
+pub between-within : (stands : ℕ → Ordering) (lo hi prev p x : ℕ) (ms : List ℕ) → seek stands prev ms ≡ Between p x → prev < hi → Within lo hi ms → p < hi
+unfolding seek
+between-within stands lo hi prev p x [] e l h = let g : prev ≡ p = cc in rw (← g) l
+between-within stands lo hi prev p x (k ∷ ms) e l h = go (stands k) refl (between-within stands lo hi k p x ms)
+  where
+    go : (o : Ordering) → stands k ≡ o → (seek stands k ms ≡ Between p x → k < hi → Within lo hi ms → p < hi) → p < hi
+    go Less q ih = ih (rw q at e) (h .1) (h .2)
+    go Equal q ih = never-both k p x (rw q at e)
+    go Greater q ih = let f : Between prev k ≡ Between p x = rw q at e in let g : prev ≡ p = cc in rw (← g) l

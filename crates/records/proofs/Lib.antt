@@ -1,0 +1,13 @@
+pub mod Words
+pub mod Rows
+pub mod Comparing
+pub mod Chains
+pub mod Added
+pub mod Forests
+pub mod Contexts
+pub mod Seeking
+pub mod Held
+pub mod Grown
+pub mod Valued
+pub mod Sequences
+pub mod Start

@@ -1,0 +1,25 @@
+use mathlib.Core.Path.{refl}
+use borrow.Author.Needs.{needs}
+use Rattle.records.specs.Store.{word}
+use Rattle.records.proofs.store.get_word.Statement.{statement}
+use Rattle.records.proofs.store.get_word.Tie as tie
+
+mul-result : tie.Need-mul-result
+mul-result c = search needs
+
+add-result : tie.Need-add-result
+add-result c = search needs
+
+mul-result-2 : tie.Need-mul-result-2
+mul-result-2 c = search needs
+
+shared-slice-read-result : tie.Need-shared-slice-read-result
+shared-slice-read-result c = search needs
+
+returns : tie.Need-returns
+unfolding word
+returns c = refl
+
+pub get-word-spec : {M : Type 1} → statement M
+get-word-spec =
+    tie.close (tie.spec mul-result add-result mul-result-2 shared-slice-read-result returns)

@@ -1,0 +1,32 @@
+-- The key of a record, and a key that is looked for.
+use Prim.Native.Nat.{ℕ, _+_, _≤_}
+use mathlib.Core.Path.{_≡_}
+use mathlib.Core.Bool.{cond}
+use mathlib.Core.List.{List}
+use lib.Dec.{eqb}
+use lib.ListN.{length, take, drop}
+use Rattle.decode.specs.Decoding.{decoded}
+use Rattle.key.specs.Keys.{Key, int, str}
+use Rattle.records.specs.declared.keys.Sought.{Sought}
+use Rattle.records.specs.declared.keys.Sought.the-variants.{Int, String}
+use Rattle.records.specs.declared.store.KeyWords.{KeyWords}
+use Rattle.records.specs.Words.{intKeyKind}
+use Rattle.records.specs.Records.{keyWordsAt}
+
+-- The key that a record's words say: an Int, or else a part of the text. Key kind 0 falls under the second, as in the code, but only
+-- the children of a Map are looked through, and crate reading proves that those have keys.
+unfoldable pub storedKey : List ℕ → KeyWords → Key
+storedKey text k = cond (eqb (k .kind) intKeyKind) (int (k .offset)) (str (take (k .len) (drop (k .offset) text)))
+
+-- The key of record n.
+abbrev pub keyAt : List ℕ → List ℕ → ℕ → Key
+keyAt ws text n = storedKey text (keyWordsAt ws n)
+
+-- A String's bytes lie in the text.
+abbrev pub InText : List ℕ → KeyWords → Type 0
+InText text k = (k .kind ≡ intKeyKind → ⊥) → k .offset + k .len ≤ length text
+
+-- The key that is looked for: an Int, or a raw segment decoded.
+unfoldable pub soughtKey : Sought → List ℕ → Key
+soughtKey (Int i) raw = int i
+soughtKey String raw = str (decoded raw)

@@ -1,0 +1,9 @@
+pub mod Words
+pub mod Store
+pub mod Records
+pub mod Order
+pub mod Keys
+pub mod Siblings
+pub mod Adding
+pub mod Nodes
+pub mod Holds

@@ -1,0 +1,67 @@
+-- Lists of siblings, and the place of a key in one.
+use Prim.Native.Nat.{ℕ, zero, suc, _<_}
+use mathlib.Core.List.{List, [], _∷_}
+use lib.ListN.{length}
+use Rattle.key.specs.Keys.{Key}
+use Rattle.records.specs.declared.keys.Ordering.{Ordering}
+use Rattle.records.specs.declared.keys.Ordering.the-variants.{Less, Equal, Greater}
+use Rattle.records.specs.declared.siblings.Place.{Place}
+use Rattle.records.specs.declared.siblings.Place.the-variants.{Found, Between}
+use Rattle.records.specs.Words.{childWord, nextWord}
+use Rattle.records.specs.Store.{recordCount, word}
+use Rattle.records.specs.Records.{keyWordsAt}
+use Rattle.records.specs.Order.{compareKeys}
+use Rattle.records.specs.Keys.{keyAt, InText}
+
+-- The numbers of the siblings from record n on, at most as many as the fuel. That the fuel of `children` isn't used up is `ends` of `Linked`, below.
+unfoldable pub chain : List ℕ → ℕ → ℕ → List ℕ
+chain ws zero n = []
+chain ws (suc fuel) zero = []
+chain ws (suc fuel) (suc n) = suc n ∷ chain ws fuel (word ws (suc n) nextWord)
+
+-- The children of record n, in the order of their list.
+abbrev pub children : List ℕ → ℕ → List ℕ
+children ws n = chain ws (recordCount ws) (word ws n childWord)
+
+-- The last of a list, or d.
+abbrev pub lastOf : ℕ → List ℕ → ℕ
+lastOf d [] = d
+lastOf d (m ∷ ms) = lastOf m ms
+
+-- Where the key of record n stands to k.
+abbrev pub standing : List ℕ → List ℕ → Key → ℕ → Ordering
+standing ws text k n = compareKeys (keyAt ws text n) k
+
+-- The choice by an ordering.
+abbrev pub choose : {A : Type 0} → Ordering → A → A → A → A
+choose Less a b c = a
+choose Equal a b c = b
+choose Greater a b c = c
+
+-- The place in a list of siblings, each of which stands somewhere to the key, behind prev.
+unfoldable pub seek : (ℕ → Ordering) → ℕ → List ℕ → Place
+seek stands prev [] = Between prev 0
+seek stands prev (m ∷ ms) = choose (stands m) (seek stands m ms) (Found m) (Between prev m)
+
+-- The place of the key k among the children of record n.
+abbrev pub place : List ℕ → List ℕ → Key → ℕ → Place
+place ws text k n = seek (standing ws text k) 0 (children ws n)
+
+-- Each number of a list lies between two bounds.
+abbrev pub Within : ℕ → ℕ → List ℕ → Type 0
+Within lo hi [] = Unit {0}
+Within lo hi (m ∷ ms) = (lo < m) × (m < hi) × Within lo hi ms
+
+-- The siblings from record n on are records, and they end.
+abbrev pub Ends : List ℕ → ℕ → Type 0
+Ends ws n = Within 0 (recordCount ws) (chain ws (recordCount ws) n) × (length (chain ws (recordCount ws) n) < recordCount ws)
+
+-- "every child has a greater number than its parent", and each list of children ends.
+pub record Linked (ws : List ℕ) : Type 0 where
+  pub rising : (n : ℕ) → n < recordCount ws → Within n (recordCount ws) (children ws n)
+  pub ends : (n : ℕ) → n < recordCount ws → length (children ws n) < recordCount ws
+
+-- Besides, keys lie in the text. Words that hold a forest of records are so (proofs/Held).
+pub record WellFormed (ws text : List ℕ) : Type 0 where
+  pub links : Linked ws
+  pub keys : (n : ℕ) → n < recordCount ws → InText text (keyWordsAt ws n)

@@ -1,0 +1,9 @@
+// The lent records as a store, in the place of the source's `ParsedValue` and `ParsedMap` (src/de/parse.rs): a record is a row of words in a
+// lent slice of u32, its key's bytes lie in a lent slice of text, and a `&mut ParsedValue` is a record's number.
+// Each function equals a total function on the list of words (specs/). That the words hold a forest of records is specs/Holds, which
+// proofs/ carry over each of those functions.
+// Below it stand the record's width (config), decoding (decode) and the keys (key).
+pub mod adding; // a value added at a record
+pub mod keys; // the order of keys
+pub mod siblings; // lists of siblings: a child found, a child put in
+pub mod store; // the words of a record

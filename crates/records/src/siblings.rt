@@ -1,0 +1,87 @@
+// Lists of siblings: a child found by its key, the last child, and a new child put in.
+ghost use mathlib.Core.Path.{_≡_};
+ghost use Prim.Native.Nat.{_<_};
+ghost use Rattle.records.specs.Store.{recordCount};
+ghost use Rattle.records.specs.Keys.{soughtKey};
+ghost use Rattle.records.specs.Siblings.{chain, children, standing, seek, place, lastOf, Ends, Linked, WellFormed};
+ghost use Rattle.records.specs.Records.{linked, inserted};
+use crate::keys;
+use crate::keys::Ordering;
+use crate::keys::Sought;
+use crate::store;
+use crate::store::Record;
+
+// Where a key stands among the children of a map: at a child, or between two, 0 standing for none.
+pub enum Place {
+    Found(u32),
+    Between(u32, u32),
+}
+
+// The place of a key among the siblings from `first` on, of which `before` is the one before the first.
+fn walk(words: &[u32], text: &[u8], before: u32, first: u32, key: Sought, raw: &[u8]) -> Place
+    requires { ⌜ WellFormed (now words) (now text) ⌝ ∗ ⌜ Ends (now words) first ⌝ }
+    ensures { λ r. ⌜ r ≡ seek (standing (now (words .entry)) (now (text .entry)) (soughtKey key (now (raw .entry)))) before
+        (chain (now (words .entry)) (recordCount (now (words .entry))) first) ⌝ }
+{
+    let mut prev = before;
+    let mut cur = first;
+    while cur != 0 {
+        match keys::compare_key(words, text, cur, key, raw) {
+            Ordering::Less => {
+                prev = cur;
+                cur = store::get_word(words, cur, store::NEXT);
+            }
+            Ordering::Equal => {
+                return Place::Found(cur);
+            }
+            Ordering::Greater => {
+                return Place::Between(prev, cur);
+            }
+        }
+    }
+    Place::Between(prev, 0)
+}
+
+// The place of a key among the children of a record.
+pub fn find(words: &[u32], text: &[u8], parent: u32, key: Sought, raw: &[u8]) -> Place
+    requires { ⌜ WellFormed (now words) (now text) ⌝ ∗ ⌜ parent < recordCount (now words) ⌝ }
+    ensures { λ r. ⌜ r ≡ place (now (words .entry)) (now (text .entry)) (soughtKey key (now (raw .entry))) parent ⌝ }
+{
+    let first = store::get_word(words, parent, store::CHILD);
+    walk(words, text, 0, first, key, raw)
+}
+
+// The last child of a record, or 0.
+pub(crate) fn last_child(words: &[u32], parent: u32) -> u32
+    requires { ⌜ Linked (now words) ⌝ ∗ ⌜ parent < recordCount (now words) ⌝ }
+    ensures { λ r. ⌜ r ≡ lastOf 0 (children (now (words .entry)) parent) ⌝ }
+{
+    let mut prev = 0;
+    let mut cur = store::get_word(words, parent, store::CHILD);
+    while cur != 0 {
+        prev = cur;
+        cur = store::get_word(words, cur, store::NEXT);
+    }
+    prev
+}
+
+// Makes record `new` the next sibling of prev, or the first child of parent where prev is 0. Nothing else changes.
+fn link(words: &mut [u32], parent: u32, prev: u32, new: u32)
+    requires { ⌜ (parent < recordCount (now words)) × (prev < recordCount (now words)) ⌝ }
+    ensures { λ _. ⌜ now (words .exit) ≡ linked (now (words .entry)) parent prev new ⌝ }
+{
+    if prev == 0 {
+        store::set_word(words, parent, store::CHILD, new);
+    } else {
+        store::set_word(words, prev, store::NEXT, new);
+    }
+}
+
+// Puts a new record, whose number is the count of those used, between prev and next among the children of parent. Nothing else changes.
+pub fn insert(words: &mut [u32], used: u32, parent: u32, prev: u32, next: u32, new: Record)
+    requires { ⌜ (used < recordCount (now words)) × (parent < recordCount (now words)) × (prev < recordCount (now words)) ⌝ }
+    ensures { λ _. ⌜ now (words .exit) ≡ inserted (now (words .entry)) used parent prev next new ⌝ }
+{
+    store::write_record(words, used, new, next);
+    link(words, parent, prev, used);
+}
