@@ -6,9 +6,21 @@
 
 /// The library's exports as C sees them: a slice is a pointer and then a count of elements.
 mod c {
+    use super::Reading;
+
     extern "C" {
         pub fn qs_decode(raw: *const u8, raw_len: usize, out: *mut u8, out_len: usize) -> i64;
         pub fn qs_utf8(bytes: *const u8, bytes_len: usize) -> i32;
+        pub fn qs_parse(
+            depth: u32,
+            form: u32,
+            input: *const u8,
+            input_len: usize,
+            records: *mut u32,
+            records_len: usize,
+            text: *mut u8,
+            text_len: usize,
+        ) -> Reading;
     }
 }
 
@@ -47,5 +59,62 @@ pub fn is_utf8(bytes: &[u8]) -> bool {
         1 => true,
         0 => false,
         other => unreachable!("qs_utf8 answers 1 or 0, and not {other}"),
+    }
+}
+
+/// How a query string is read.
+#[derive(Clone, Copy, Debug, PartialEq, Eq)]
+pub struct Config {
+    /// How deep brackets nest, at most 64.
+    pub depth: u32,
+    /// Whether `%5B` and `%5D` are taken as brackets.
+    pub form: bool,
+}
+
+impl Default for Config {
+    fn default() -> Self {
+        Config {
+            depth: 5,
+            form: false,
+        }
+    }
+}
+
+/// What a reading answers: `number` is 0 where it was accepted, else the refusal's number in document 01.
+#[repr(C)]
+#[derive(Clone, Copy, Debug, PartialEq, Eq)]
+pub struct Reading {
+    pub number: u32,
+    /// Where a refusal was met, in bytes from the input's start and past the byte that was taken last.
+    pub place: u32,
+    /// The records and the bytes of text that an accepted reading uses.
+    pub records: u32,
+    pub bytes: u32,
+}
+
+/// Reads a query string into lent records of eight words, and text. For `n` bytes of input `n + 1` records and `n` bytes of text
+/// always suffice.
+///
+/// ```
+/// let (mut records, mut text) = ([0; 32], [0; 3]);
+/// let reading = qs::parse(qs::Config::default(), b"a=1", &mut records, &mut text);
+/// assert_eq!((reading.number, reading.records, reading.bytes), (0, 2, 2));
+/// assert_eq!(&text[..2], b"a1");
+/// let reading = qs::parse(qs::Config::default(), b"a[", &mut records, &mut text);
+/// assert_eq!((reading.number, reading.place), (4, 3));
+/// ```
+pub fn parse(config: Config, input: &[u8], records: &mut [u32], text: &mut [u8]) -> Reading {
+    // SAFETY: the slices live through the call, and `records` and `text` are lent to it alone.
+    unsafe {
+        c::qs_parse(
+            config.depth,
+            config.form.into(),
+            input.as_ptr(),
+            input.len(),
+            records.as_mut_ptr(),
+            records.len(),
+            text.as_mut_ptr(),
+            text.len(),
+        )
     }
 }

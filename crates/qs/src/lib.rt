@@ -1,10 +1,23 @@
 // The functions exported to C and Rust, each a thin cover of a proved one; `rt staticlib qs` writes them to one archive.
-// A slice is passed as a pointer and the count of its elements. Below it stand decode and utf8.
+// A slice is passed as a pointer and the count of its elements. Below it stand the reader (parse), decode and utf8.
+use config::Config;
 use decode::Decoded;
+use parse::Parsed;
 ghost use mathlib.Core.Path.{_≡_};
 ghost use Rattle.decode.specs.Decoding.{answer, written};
 ghost use Rattle.utf8.specs.Test.{utf8};
+ghost use Rattle.reading.specs.Reading.{reading};
 ghost use Rattle.qs.specs.Numbers.{lengthOrNo, oneOrZero};
+ghost use Rattle.qs.specs.Readings.{settings, resultIn};
+
+// What a reading answers: document 01's number, place, records used and text bytes used.
+#[repr(C)]
+pub struct Reading {
+    pub number: u32,
+    pub place: u32,
+    pub records: u32,
+    pub bytes: u32,
+}
 
 // Decodes `raw` into `out`: the decoded length, with the further bytes of `out` as they were; or -1 where the decoded bytes don't
 // fit, with `out` unchanged.
@@ -25,4 +38,36 @@ pub extern "C" fn qs_utf8(bytes: &[u8]) -> i32
     ensures { λ r. ⌜ r ≡ oneOrZero (utf8 (now (bytes .entry))) ⌝ }
 {
     if utf8::is_utf8(bytes) { 1 } else { 0 }
+}
+
+// Reads `input` into lent `records`, eight words each, and `text`, at a depth and with the form flag off (0) or on (anything else). Refusals 1 to 3
+// leave both slices unchanged, the later ones leave them zero.
+#[no_mangle]
+pub extern "C" fn qs_parse(
+    depth: u32,
+    form: u32,
+    input: &[u8],
+    records: &mut [u32],
+    text: &mut [u8],
+) -> Reading
+    ensures { λ r. ⌜ resultIn r (now (records .exit)) (now (text .exit)) ≡ reading (settings depth form) (now (input .entry)) (now (records .entry)) (now (text .entry)) ⌝ }
+{
+    let config = Config {
+        depth: depth as usize,
+        form: form != 0,
+    };
+    match parse::parse(input, config, records, text) {
+        Parsed::Accepted(used, bytes) => Reading {
+            number: 0,
+            place: 0,
+            records: used,
+            bytes,
+        },
+        Parsed::Refused(number, place) => Reading {
+            number,
+            place: place as u32,
+            records: 0,
+            bytes: 0,
+        },
+    }
 }

@@ -1,21 +1,24 @@
 -- No place lies further than one past the input.
 use Prim.Native.Nat.{ℕ, _+_, _≤_}
 use mathlib.Core.Path.{_≡_, _∙_}
+use mathlib.Core.Bool.{false}
 use mathlib.Core.List.{List, [], _∷_}
 use native.Mathlib.Omega.{arith}
+use borrow.Author.Tests.{ltb-false}
+use lib.Dec.{ltb}
 use lib.ListN.{length}
 use Rattle.config.specs.declared.Config.{Config}
+use Rattle.config.specs.Limits.{maxDepth, maxLen, recordWidth}
 use Rattle.reading.specs.Values.{Value, uninitialized}
 use Rattle.reading.specs.Charging.{Lent, Made, made, refused}
 use Rattle.reading.specs.Taking.{tokens}
 use Rattle.reading.specs.Scanning.{rootKey, step, finish}
 use Rattle.reading.specs.Running.{perform, Answer}
-use Rattle.reading.specs.Reading.{lentBy, parsed, outcome}
-use Rattle.reading.specs.Placed.{Placed}
-use Rattle.reading.proofs.Results.{Gives, gives, refuses}
+use Rattle.reading.specs.Reading.{Outcome, lentBy, parsed, outcome, reading}
+use Rattle.reading.specs.Placed.{InPlace, Placed}
+use Rattle.reading.proofs.Results.{Gives, gives, refuses, by-test}
 use Rattle.reading.proofs.Runs.{Ends, accepts, refusesAt, run-ends}
 use Rattle.reading.proofs.Takings.{endOf, end-later, tokens-end}
-use Rattle.reading.proofs.Outcomes.{reading-cases}
 
 -- Whatever is made, if both facts hold anyway.
 anyway : {A B : Type 0} (m : Made Value) → A → B → Gives (λ v n t. A) (λ x. B) m
@@ -32,11 +35,23 @@ parsed-placed config (b ∷ s) lent =
     (λ p m v n t e. anyway (perform lent (finish config m) v n t) tt (omega arith)) (tokens config (b ∷ s)) 0 (rootKey []) uninitialized 1 []
     (tokens-end config (b ∷ s) 0 ∙ omega arith)
 
+outcome-placed : (words bytes n : ℕ) {a : Answer} → Ends (λ v m t. Unit) (λ x p. p ≤ n) a → (outcome words bytes a) .place ≤ n
+outcome-placed words bytes n (accepts u) = omega arith
+outcome-placed words bytes n (refusesAt h) = h
+
 pub placed : Placed
+unfolding reading
 placed config input words text =
-    reading-cases (λ o. o .place ≤ length input + 1) config input words text (omega arith) (omega arith) (omega arith)
-    (λ h. go (parsed-placed config input (lentBy words text)))
+    by-test In (ltb maxDepth (config .depth)) (λ e. unmoved)
+    (λ e. by-test In (ltb maxLen (length input)) (λ f. unmoved) (λ f. by-test In (ltb (length words) recordWidth) (λ g. unmoved) (λ g. moved f)))
   where
-    go : {a : Answer} → Ends (λ v n t. Unit) (λ x p. p ≤ length input + 1) a → (outcome (length words) (length text) a) .place ≤ length input + 1
-    go (accepts u) = omega arith
-    go (refusesAt h) = h
+    In : Outcome → Type 0
+    In o = InPlace input (o .place)
+
+    unmoved : InPlace input 0
+    unmoved = record { inside = omega arith; bounded = omega arith }
+
+    moved : ltb maxLen (length input) ≡ false → In (outcome (length words) (length text) (parsed config input (lentBy words text)))
+    moved f =
+        let h = outcome-placed (length words) (length text) (length input + 1) (parsed-placed config input (lentBy words text)) in
+        record { inside = h; bounded = omega (arith, h, ltb-false maxLen (length input) f) }

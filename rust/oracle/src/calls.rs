@@ -22,6 +22,12 @@ pub fn parse(input: &[u8], depth: usize, form: bool) -> Result<Tree, (u32, usize
     }
 }
 
+/// Whether the crate accepts the query string: its reading alone, for timing it.
+pub fn accepts(input: &[u8], depth: usize, form: bool) -> bool {
+    let config = Config::new().max_depth(depth).use_form_encoding(form);
+    exposed::parse::parse(input, config).is_ok()
+}
+
 fn tree(value: &ParsedValue) -> Tree {
     match value {
         ParsedValue::Map(map) => Tree::Map(

@@ -2,7 +2,7 @@
 //!
 //! `build.rs` finds the crate's own files, and they are compiled here unchanged: with the ordered
 //! map, without `indexmap`, `debug_parsed` and `default_to_form_encoding`. Where they weren't
-//! found, [`MISSING`] says so, and [`decode`] and [`parse`] panic.
+//! found, [`MISSING`] says so, and the calls panic.
 
 // The crate's modules. They name each other and these types by `crate::`, so all stand at the
 // root, as in the crate's own lib.rs.
@@ -15,7 +15,7 @@ use {config::Config, de::QsDeserializer as Deserializer, error::Error, serialize
 
 #[cfg_attr(not(serde_qs_sources), path = "missing.rs")]
 mod calls;
-pub use calls::{decode, parse, MISSING};
+pub use calls::{accepts, decode, parse, MISSING};
 
 /// A key of a map.
 #[derive(Clone, Debug, PartialEq, Eq)]

@@ -18,3 +18,8 @@ pub fn decode(_raw: &[u8]) -> Vec<u8> {
 pub fn parse(_input: &[u8], _depth: usize, _form: bool) -> Result<Tree, (u32, usize)> {
     panic!("{}", MISSING.unwrap_or_default())
 }
+
+/// Panics: see [`MISSING`].
+pub fn accepts(_input: &[u8], _depth: usize, _form: bool) -> bool {
+    panic!("{}", MISSING.unwrap_or_default())
+}

@@ -1,6 +1,8 @@
 //! What the test files share; none of them uses all of it.
 #![allow(dead_code)]
 
+pub mod inputs;
+
 use std::io::Write;
 
 /// A byte of each kind that decoding tells apart: both marks, a digit, a hex letter of either case,
@@ -86,4 +88,48 @@ pub fn reference_is_there() -> bool {
         "LEFT OUT, no comparison with the crate: {why}"
     );
     false
+}
+
+/// The tree that records and text hold, by document 01's words of a record.
+pub fn tree(words: &[u32], text: &[u8]) -> serde_qs_reference::Tree {
+    tree_at(words, text, 0)
+}
+
+fn tree_at(words: &[u32], text: &[u8], number: u32) -> serde_qs_reference::Tree {
+    use serde_qs_reference::{Key, Tree};
+    let record = |number: u32| &words[number as usize * 8..][..8];
+    let part = |offset: u32, length: u32| text[offset as usize..][..length as usize].to_vec();
+    let siblings = || {
+        let mut numbers = Vec::new();
+        let mut next = record(number)[6];
+        while next != 0 {
+            numbers.push(next);
+            next = record(next)[7];
+        }
+        numbers
+    };
+    let key = |number: u32| match record(number)[1..4] {
+        [1, int, 0] => Key::Int(int),
+        [2, offset, length] => Key::String(part(offset, length)),
+        _ => panic!("record {number} has no key"),
+    };
+    match record(number)[0] {
+        0 => Tree::Uninitialized,
+        1 => Tree::Map(
+            siblings()
+                .into_iter()
+                .map(|child| (key(child), tree_at(words, text, child)))
+                .collect(),
+        ),
+        2 => Tree::Sequence(
+            siblings()
+                .into_iter()
+                .map(|child| tree_at(words, text, child))
+                .collect(),
+        ),
+        3 => Tree::String(part(record(number)[4], record(number)[5])),
+        4 => Tree::Null,
+        5 => Tree::NoValue,
+        kind => panic!("record {number} has kind {kind}"),
+    }
 }

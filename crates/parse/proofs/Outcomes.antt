@@ -1,0 +1,141 @@
+-- The whole reading: from the loop over pairs to `reading`.
+use Prim.Native.Nat.{ℕ, _≤_, _<_}
+use mathlib.Core.Path.{_≡_, refl, sym, ap, _∙_, subst}
+use mathlib.Core.Bool.{Bool, true, false}
+use mathlib.Core.List.{List, [], _∷_}
+use native.Mathlib.Omega.{arith}
+use borrow.Author.Tests.{leb-true, leb-false, lt-ltb, le-ltb}
+use lib.Dec.{leb}
+use lib.ListN.{length, replicate, length-replicate}
+use Rattle.config.specs.declared.Config.{Config}
+use Rattle.config.specs.Limits.{maxDepth, maxLen, recordWidth}
+use Rattle.reading.specs.Values.{uninitialized, noValue}
+use Rattle.reading.specs.Charging.{Lent}
+use Rattle.reading.specs.Scanning.{rootKey}
+use Rattle.reading.specs.Running.{Answer, accepted}
+use Rattle.reading.specs.Reading.{lentBy, parsed, outcome, reading}
+use Rattle.reading.proofs.Results.{gives}
+use Rattle.cursor.specs.From.{from}
+use Rattle.cursor.proofs.From.{from-start}
+use Rattle.records.specs.Words.{noValueKind}
+use Rattle.records.specs.Store.{recordCount}
+use Rattle.records.specs.Records.{withValue}
+use Rattle.records.specs.Adding.{childless}
+use Rattle.records.proofs.Valued.{length-withValue}
+use Rattle.tree.specs.declared.Here.{Here}
+use Rattle.tree.specs.Stored.{Stores}
+use Rattle.tree.proofs.Paths.{root}
+use Rattle.tree.proofs.Standing.{same-lent}
+use Rattle.tree.proofs.Whole.{outcome-is, cleared, no-value}
+use Rattle.parse.specs.declared.Parsed.{Parsed}
+use Rattle.parse.specs.declared.Parsed.the-variants.{Accepted, Refused as RefusedHere}
+use Rattle.parse.specs.declared.turning.Turn.{Turn}
+use Rattle.parse.specs.declared.turning.Turn.the-variants.{Going, Refused}
+use Rattle.parse.specs.Outcomes.{outcomeOf}
+use Rattle.parse.specs.Progress.{still, Reads, Ready}
+use Rattle.parse.specs.Turns.{Ends}
+
+abbrev start : Here
+start = record { records = 1; bytes = 0; node = 0 }
+
+-- Cleared slices hold the Uninitialized root, with which the reading of an input starts.
+module _ (config : Config) {s W X : List ℕ} (small : length s ≤ maxLen) (some : recordWidth ≤ length W) (a : W ≡ replicate (length W) 0) (b : X ≡ replicate (length X) 0) where
+  start-reads : Reads config s W X start 0 (still (λ path. rootKey [])) (from config (lentBy W X) s 0 (rootKey []) uninitialized 1 [])
+  start-reads =
+      record {
+        lent = lentBy W X;
+        path = [];
+        tree = uninitialized;
+        laid = [];
+        stands = record {
+          lent-is = refl;
+          stores = subst (λ (x : List ℕ). Stores W x 1 0 uninitialized []) (sym b) (subst (λ (w : List ℕ). Stores w (replicate (length X) 0) 1 0 uninitialized []) (sym a) (cleared (length W) (length X) some));
+          leads = root uninitialized;
+        };
+        onward = refl;
+        covered = gives {a = uninitialized} {n = 1} {t = []} (record { records = omega arith; bytes = omega arith });
+        records = omega arith;
+        bytes = omega arith;
+        small = small;
+        within = omega arith;
+      }
+
+  pub start-ready : Ready config s W X start 0 (still (λ path. rootKey []))
+  start-ready = record { answer = from config (lentBy W X) s 0 (rootKey []) uninitialized 1 []; reads = start-reads }
+
+  -- The answer to an input that isn't empty.
+  module _ (nonempty : 0 < length s) (W′ X′ : List ℕ) (w : length W′ ≡ length W) (x : length X′ ≡ length X) {turn : Turn}
+      (g : (answer : Answer) → Reads config s W X start 0 (still (λ path. rootKey [])) answer → Ends answer W′ X′ turn) where
+    ends : {turn′ : Turn} → turn ≡ turn′ → Ends (parsed config s (lentBy W X)) W′ X′ turn′
+    ends e = subst (λ (z : Turn). Ends (parsed config s (lentBy W X)) W′ X′ z) e (subst (λ (z : Answer). Ends z W′ X′ turn) (sym (from-start config (lentBy W X) s nonempty)) (g (from config (lentBy W X) s 0 (rootKey []) uninitialized 1 []) start-reads))
+
+    pub some-accepted : {place : ℕ} {here : Here} → turn ≡ Going place here → outcomeOf (Accepted (here .records) (here .bytes)) W′ X′ ≡ outcome (length W) (length X) (parsed config s (lentBy W X))
+    some-accepted e =
+        let y = ends e in
+        sym (ap (outcome (length W) (length X)) (y .is) ∙ rw (← w, ← x) (outcome-is (y .stores)))
+
+    pub some-refused : {number place : ℕ} {W″ X″ : List ℕ} → turn ≡ Refused number place → W″ ≡ replicate (length W′) 0 → X″ ≡ replicate (length X′) 0
+        → outcomeOf (RefusedHere number place) W″ X″ ≡ outcome (length W) (length X) (parsed config s (lentBy W X))
+    some-refused {number} {place} e p q =
+        let y = ends e in
+        rw (p, q, w, x, y .numbered) (sym (ap (outcome (length W) (length X)) (y .is)))
+
+-- The slices are cleared first.
+module _ (W X W′ X′ : List ℕ) (a : W′ ≡ replicate (length W) 0) (b : X′ ≡ replicate (length X) 0) where
+  pub cleared-words : length W′ ≡ length W
+  cleared-words = ap length a ∙ length-replicate (length W) 0
+
+  cleared-text : length X′ ≡ length X
+  cleared-text = ap length b ∙ length-replicate (length X) 0
+
+  pub words-zero : W′ ≡ replicate (length W′) 0
+  words-zero = a ∙ ap (λ (n : ℕ). replicate n 0) (sym cleared-words)
+
+  pub text-zero : X′ ≡ replicate (length X′) 0
+  text-zero = b ∙ ap (λ (n : ℕ). replicate n 0) (sym cleared-text)
+
+  -- The lengths are those that were lent.
+  pub as-lent : (config : Config) (s : List ℕ) → outcome (length W′) (length X′) (parsed config s (lentBy W′ X′)) ≡ outcome (length W) (length X) (parsed config s (lentBy W X))
+  as-lent config s =
+      ap (λ (lent : Lent). outcome (length W′) (length X′) (parsed config s lent)) (sym (same-lent W X W′ X′ cleared-words cleared-text))
+      ∙ ap (λ (n : ℕ). outcome n (length X′) (parsed config s (lentBy W X))) cleared-words
+      ∙ ap (λ (n : ℕ). outcome (length W) n (parsed config s (lentBy W X))) cleared-text
+
+  -- "Empty ticket: NoValue root."
+  pub empty-accepted : (config : Config) (s : List ℕ) → length s ≡ 0 → recordWidth ≤ length W → {W″ : List ℕ} {r : Parsed} → (W″ ≡ withValue W′ 0 (childless noValueKind)) × (r ≡ Accepted 1 0)
+      → outcomeOf r W″ X′ ≡ outcome (length W) (length X) (parsed config s (lentBy W X))
+  empty-accepted config (c ∷ s) e some q = absurd (omega arith)
+  empty-accepted config [] e some {W″} {r} q =
+      let long : length W″ ≡ length W = ap length (q .0) ∙ length-withValue W′ 0 (childless noValueKind) ∙ cleared-words in
+      let stores : Stores W″ X′ 1 0 noValue [] =
+      subst (λ (x : List ℕ). Stores W″ x 1 0 noValue []) (sym b)
+      (subst (λ (w : List ℕ). Stores w (replicate (length X) 0) 1 0 noValue []) (sym (q .0 ∙ ap (λ (w : List ℕ). withValue w 0 (childless noValueKind)) a)) (no-value (length W) (length X) some)) in
+      ap (λ (z : Parsed). outcomeOf z W″ X′) (q .1)
+      ∙ sym (ap (λ (n : ℕ). outcome n (length X) (accepted noValue 1 [])) (sym long) ∙ ap (λ (n : ℕ). outcome (length W″) n (accepted noValue 1 [])) (sym cleared-text) ∙ outcome-is stores)
+
+-- Whether a record is lent.
+pub has-record : (W : List ℕ) {b : Bool} → b ≡ leb 1 (recordCount W) → b ≡ true → recordWidth ≤ length W
+has-record W e f = omega (arith, leb-true 1 (recordCount W) (sym e ∙ f))
+
+pub lacks-record : (W : List ℕ) {b : Bool} → b ≡ leb 1 (recordCount W) → b ≡ false → length W < recordWidth
+lacks-record W e f = omega (arith, leb-false 1 (recordCount W) (sym e ∙ f))
+
+-- Refusals 1 to 3.
+module _ (config : Config) (s W X : List ℕ) where
+  pub too-deep : maxDepth < config .depth → outcomeOf (RefusedHere 1 0) W X ≡ reading config s W X
+  unfolding reading
+  too-deep h = rw (lt-ltb maxDepth (config .depth) h)
+
+  module _ (h : config .depth ≤ maxDepth) where
+    pub too-long : maxLen < length s → outcomeOf (RefusedHere 2 0) W X ≡ reading config s W X
+    unfolding reading
+    too-long k = rw (le-ltb maxDepth (config .depth) h, lt-ltb maxLen (length s) k)
+
+    module _ (k : length s ≤ maxLen) where
+      pub no-record : length W < recordWidth → outcomeOf (RefusedHere 3 0) W X ≡ reading config s W X
+      unfolding reading
+      no-record l = rw (le-ltb maxDepth (config .depth) h, le-ltb maxLen (length s) k, lt-ltb (length W) recordWidth l)
+
+      pub is-read : recordWidth ≤ length W → outcome (length W) (length X) (parsed config s (lentBy W X)) ≡ reading config s W X
+      unfolding reading
+      is-read l = rw (le-ltb maxDepth (config .depth) h, le-ltb maxLen (length s) k, le-ltb (length W) recordWidth l)

@@ -1,0 +1,93 @@
+// The reader: the source's `parse` (src/de/parse.rs) of an input into lent records and text, equal to `reading` (specs/Outcomes).
+// Below it stand the scanning of the input (cursor), the commands on the tree that the records hold (tree), the records (records) and the
+// definitions (reading).
+mod bracket; // inside brackets: `parse_nested_key`
+mod clearing; // slices cleared
+mod commands; // the tree's commands on segments of the input
+mod refusals; // the numbers of the refusals
+mod root; // the pairs of the input
+mod turning; // what is left of a pair once it is read
+mod value; // a value after a `=`
+
+ghost use mathlib.Core.Path.{_≡_};
+ghost use Prim.Native.Nat.{_≤_, _<_};
+ghost use lib.ListN.{length, replicate};
+ghost use Rattle.config.specs.Limits.{maxLen, recordWidth};
+ghost use Rattle.reading.specs.Reading.{lentBy, parsed, outcome, reading};
+ghost use Rattle.records.specs.Words.{noValueKind};
+ghost use Rattle.records.specs.Records.{withValue};
+ghost use Rattle.records.specs.Adding.{childless};
+ghost use Rattle.parse.specs.declared.Parsed.the-variants.{Accepted};
+ghost use Rattle.parse.specs.Outcomes.{outcomeOf};
+use clearing::clear_text;
+use clearing::clear_words;
+use config::Config;
+use records::store;
+use records::store::ValueWords;
+use root::parse_pairs;
+use turning::Turn;
+
+// The answer of a reading: accepted, with the records and the text bytes used; or refused, with document 01's number and place.
+pub enum Parsed {
+    Accepted(u32, u32),
+    Refused(u32, usize),
+}
+
+// Reads an input that isn't empty into cleared slices. A refusal leaves them cleared.
+fn parse_some(input: &[u8], config: Config, words: &mut [u32], text: &mut [u8]) -> Parsed
+    requires { ⌜ (0 < length (now input)) × (length (now input) ≤ maxLen) × (recordWidth ≤ length (now words)) × (now words ≡ replicate (length (now words)) 0) × (now text ≡ replicate (length (now text)) 0) ⌝ }
+    ensures { λ r. ⌜ outcomeOf r (now (words .exit)) (now (text .exit)) ≡ outcome (length (now (words .entry))) (length (now (text .entry))) (parsed config (now (input .entry)) (lentBy (now (words .entry)) (now (text .entry)))) ⌝ }
+{
+    match parse_pairs(input, config, words, text) {
+        Turn::Going(_, here) => Parsed::Accepted(here.records, here.bytes),
+        Turn::Refused(number, place) => {
+            clear_words(words);
+            clear_text(text);
+            Parsed::Refused(number, place)
+        }
+    }
+}
+
+// Reads an empty input into cleared slices: a NoValue root.
+fn parse_empty(words: &mut [u32]) -> Parsed
+    requires { ⌜ recordWidth ≤ length (now words) ⌝ }
+    ensures { λ r. ⌜ (now (words .exit) ≡ withValue (now (words .entry)) 0 (childless noValueKind)) × (r ≡ Accepted 1 0) ⌝ }
+{
+    let no_value = ValueWords {
+        kind: store::NO_VALUE,
+        offset: 0,
+        len: 0,
+    };
+    store::set_value(words, 0, no_value);
+    Parsed::Accepted(1, 0)
+}
+
+// Clears the slices, and reads the input into them.
+fn parse_cleared(input: &[u8], config: Config, words: &mut [u32], text: &mut [u8]) -> Parsed
+    requires { ⌜ (length (now input) ≤ maxLen) × (recordWidth ≤ length (now words)) ⌝ }
+    ensures { λ r. ⌜ outcomeOf r (now (words .exit)) (now (text .exit)) ≡ outcome (length (now (words .entry))) (length (now (text .entry))) (parsed config (now (input .entry)) (lentBy (now (words .entry)) (now (text .entry)))) ⌝ }
+{
+    clear_words(words);
+    clear_text(text);
+    if input.len() == 0 {
+        return parse_empty(words);
+    }
+    parse_some(input, config, words, text)
+}
+
+// Reads the input into the lent words and text. Refusals 1 to 3 leave both unchanged, the later ones leave both zero; what an accepted reading
+// doesn't use is zero.
+pub fn parse(input: &[u8], config: Config, words: &mut [u32], text: &mut [u8]) -> Parsed
+    ensures { λ r. ⌜ outcomeOf r (now (words .exit)) (now (text .exit)) ≡ reading config (now (input .entry)) (now (words .entry)) (now (text .entry)) ⌝ }
+{
+    if Config::MAX_DEPTH < config.depth {
+        return Parsed::Refused(refusals::TOO_DEEP, 0);
+    }
+    if Config::MAX_LEN < input.len() {
+        return Parsed::Refused(refusals::TOO_LONG, 0);
+    }
+    if store::has_room(words, 1) {
+        return parse_cleared(input, config, words, text);
+    }
+    Parsed::Refused(refusals::NO_RECORD, 0)
+}

@@ -1,0 +1,13 @@
+pub mod Orders
+pub mod Entries
+pub mod Paths
+pub mod Composed
+pub mod Lays
+pub mod Standing
+pub mod Chained
+pub mod Needs
+pub mod Appends
+pub mod AppendWays
+pub mod EnterWays
+pub mod Bounds
+pub mod Whole

@@ -1,0 +1,20 @@
+-- Document 01, 'Settings and the lent buffers': "Text is laid end to end as made". 'Decoding': it "writes into the free tail of the text slice".
+use mathlib.Core.Bool.{Bool, cond}
+use mathlib.Core.List.{List, _++_}
+use Prim.Native.Nat.{ℕ, _+_}
+use lib.Dec.{leb}
+use lib.ListN.{length, take, drop}
+use Rattle.decode.specs.declared.Decoded.{Decoded}
+use Rattle.decode.specs.declared.Decoded.the-variants.{Yes, No}
+
+-- Whether some bytes fit behind those used.
+abbrev pub fitsBehind : List ℕ → ℕ → List ℕ → Bool
+fitsBehind text used bytes = leb (used + length bytes) (length text)
+
+-- The answer is as decoding's: yes and the length, or no.
+abbrev pub layAnswer : List ℕ → ℕ → List ℕ → Decoded
+layAnswer text used bytes = cond (fitsBehind text used bytes) (Yes (length bytes)) No
+
+-- The text after it: unchanged where they don't fit.
+abbrev pub laid : List ℕ → ℕ → List ℕ → List ℕ
+laid text used bytes = cond (fitsBehind text used bytes) (take used text ++ (bytes ++ drop (used + length bytes) text)) text

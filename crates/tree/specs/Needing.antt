@@ -1,0 +1,32 @@
+-- Document 01, 'The root' (needing a map) and 'Inside a bracket' (`[]`), on the words of a record.
+use mathlib.Core.Bool.{cond}
+use mathlib.Core.List.{List}
+use Prim.Native.Nat.{ℕ}
+use lib.Dec.{eqb}
+use Rattle.records.specs.Words.{kindWord, uninitializedKind, mapKind, sequenceKind, stringKind}
+use Rattle.records.specs.Store.{word}
+use Rattle.records.specs.Records.{withValue}
+use Rattle.records.specs.Adding.{childless}
+use Rattle.reading.specs.Refusals.{code, sequenceOnMap, sequenceOnSingle, mapOnSequence, mapOnString, mapOnNull}
+use Rattle.tree.specs.declared.Here.{Here}
+use Rattle.tree.specs.declared.Performed.{Performed}
+use Rattle.tree.specs.declared.Performed.the-variants.{Made, Refused}
+
+-- "Needing a map: Uninitialized becomes Map, a Map serves, the rest refuse (8, 9, 10)": the answer by the record's kind.
+abbrev pub mapAnswer : Here → ℕ → Performed
+mapAnswer here kind =
+    cond (eqb kind uninitializedKind) (Made here)
+    (cond (eqb kind mapKind) (Made here)
+    (cond (eqb kind sequenceKind) (Refused (code mapOnSequence))
+    (cond (eqb kind stringKind) (Refused (code mapOnString)) (Refused (code mapOnNull)))))
+
+-- "Uninitialized becomes Sequence, a Sequence serves, the rest refuse (6, 7)"
+abbrev pub sequenceAnswer : Here → ℕ → Performed
+sequenceAnswer here kind =
+    cond (eqb kind uninitializedKind) (Made here)
+    (cond (eqb kind sequenceKind) (Made here)
+    (cond (eqb kind mapKind) (Refused (code sequenceOnMap)) (Refused (code sequenceOnSingle))))
+
+-- The words after it: an Uninitialized record n is of the kind that is needed.
+abbrev pub becomes : List ℕ → ℕ → ℕ → List ℕ
+becomes ws n kind = cond (eqb (word ws n kindWord) uninitializedKind) (withValue ws n (childless kind)) ws

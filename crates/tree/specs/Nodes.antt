@@ -1,0 +1,36 @@
+-- Document 01, 'Settings and the lent buffers': the records of a tree, linked by first child and next sibling.
+use lib.ListN.{getD}
+use Rattle.records.specs.declared.store.KeyWords.{KeyWords}
+use Rattle.records.specs.declared.store.ValueWords.{ValueWords}
+use Rattle.records.specs.declared.store.Record.{Record}
+use Rattle.records.specs.Nodes.{Nodes, nil, node}
+use Rattle.reading.specs.Values.{Label, unkeyed, Value, uninitialized, null, noValue, string, map, sequence, Forest, none, child}
+use Rattle.reading.specs.Records.{kind, textOffset, textLength, keyWords}
+
+-- The words of a key, of a value without its children, and of both.
+abbrev pub labelWords : Label → KeyWords
+labelWords label = record { kind = getD (keyWords label) 0 0; offset = getD (keyWords label) 1 0; len = getD (keyWords label) 2 0 }
+
+abbrev pub valueWords : Value → ValueWords
+valueWords value = record { kind = kind value; offset = textOffset value; len = textLength value }
+
+abbrev pub recordOf : Label → Value → Record
+recordOf label value = record { key = labelWords label; value = valueWords value }
+
+-- The records below a value, and those of some children with all below them.
+abbrev mutual
+  pub below : Value → Nodes
+  below uninitialized = nil
+  below null = nil
+  below noValue = nil
+  below (string o x) = nil
+  below (map children) = nodes children
+  below (sequence children) = nodes children
+
+  pub nodes : Forest → Nodes
+  nodes none = nil
+  nodes (child number label value later) = node number (recordOf label value) (below value) (nodes later)
+
+-- The records of a tree: "Record 0 is the root." It has no key and no sibling.
+abbrev pub rooted : Value → Nodes
+rooted tree = node 0 (recordOf unkeyed tree) (below tree) nil

@@ -1,0 +1,127 @@
+// A value added: at a record, last in a sequence, under a key.
+ghost use mathlib.Core.Path.{_≡_};
+ghost use Prim.Native.Nat.{_+_};
+ghost use lib.ListN.{length};
+ghost use Rattle.records.specs.Keys.{soughtKey};
+ghost use Rattle.tree.specs.Leaves.{leafOf, newValueWords};
+ghost use Rattle.tree.specs.Stored.{Standing};
+ghost use Rattle.tree.specs.Commands.{Does, appends, pushes, inserts, stays, further, Countable, Modest};
+use crate::Here;
+use crate::Performed;
+use crate::entering;
+use crate::laying;
+use crate::needing;
+use crate::refusals;
+use decode::Decoded;
+use records::adding;
+use records::adding::Appended;
+use records::keys::Sought;
+use records::store;
+use records::store::ValueWords;
+
+// The kind of a value that is added; a String is a raw segment, which stands beside it, decoded.
+pub enum LeafKind {
+    Null,
+    NoValue,
+    String,
+}
+
+// The words of a value whose text, if it has any, is laid at an offset with a length.
+fn value_words(kind: LeafKind, offset: u32, len: u32) -> ValueWords
+    ensures { λ r. ⌜ r ≡ newValueWords kind offset len ⌝ }
+{
+    match kind {
+        LeafKind::Null => ValueWords {
+            kind: store::NULL,
+            offset: 0,
+            len: 0,
+        },
+        LeafKind::NoValue => ValueWords {
+            kind: store::NO_VALUE,
+            offset: 0,
+            len: 0,
+        },
+        LeafKind::String => ValueWords {
+            kind: store::STRING,
+            offset,
+            len,
+        },
+    }
+}
+
+// Adds a value at the record, by the rule of Adding. The text comes first: where it doesn't fit, the rule runs all the same, to tell whether
+// the records are too few, which is the refusal then. What stands in the words and behind the used text is free after a refusal.
+pub fn append_value(
+    words: &mut [u32],
+    text: &mut [u8],
+    here: Here,
+    kind: LeafKind,
+    value: &[u8],
+) -> Performed
+    requires { ⌜ Standing (now words) (now text) here ⌝ ∗ ⌜ Countable here 2 (length (now value)) ⌝ }
+    ensures does { λ r. ⌜ Does (now (words .entry)) (now (text .entry)) (now (words .exit)) (now (text .exit)) here
+        (appends (leafOf kind (now (value .entry)))) stays r ⌝ }
+    ensures modest { λ r. ⌜ Modest here (length (now (value .entry))) r ⌝ }
+{
+    match laying::lay_value(kind, value, text, here.bytes as usize) {
+        Decoded::Yes(len) => {
+            let new = value_words(kind, here.bytes, len as u32);
+            match adding::append(words, text, here.records, here.node, new) {
+                Appended::Used(records) => Performed::Made(Here {
+                    records,
+                    bytes: here.bytes + len as u32,
+                    node: here.node,
+                }),
+                Appended::TooFew => Performed::Refused(refusals::TOO_FEW_RECORDS),
+            }
+        }
+        Decoded::No => {
+            let new = value_words(kind, 0, 0);
+            match adding::append(words, text, here.records, here.node, new) {
+                Appended::Used(_) => Performed::Refused(refusals::TOO_LITTLE_TEXT),
+                Appended::TooFew => Performed::Refused(refusals::TOO_FEW_RECORDS),
+            }
+        }
+    }
+}
+
+// Adds a value last in the sequence that is needed at the record. What stands in the words and behind the used text is free after a refusal.
+pub fn push(
+    words: &mut [u32],
+    text: &mut [u8],
+    here: Here,
+    kind: LeafKind,
+    value: &[u8],
+) -> Performed
+    requires { ⌜ Standing (now words) (now text) here ⌝ ∗ ⌜ Countable here 2 (length (now value)) ⌝ }
+    ensures does { λ r. ⌜ Does (now (words .entry)) (now (text .entry)) (now (words .exit)) (now (text .exit)) here
+        (pushes (leafOf kind (now (value .entry)))) stays r ⌝ }
+    ensures modest { λ r. ⌜ Modest here (length (now (value .entry))) r ⌝ }
+{
+    match needing::expect_sequence(words, here) {
+        Performed::Made(there) => append_value(words, text, there, kind, value),
+        Performed::Refused(number) => Performed::Refused(number),
+    }
+}
+
+// Adds a value under a key of the map that is needed at the record: the key is entered and the value added there. A new key's child is
+// Uninitialized and so becomes the value. What stands in the words and behind the used text is free after a refusal.
+pub fn insert_unique(
+    words: &mut [u32],
+    text: &mut [u8],
+    here: Here,
+    key: Sought,
+    raw: &[u8],
+    kind: LeafKind,
+    value: &[u8],
+) -> Performed
+    requires { ⌜ Standing (now words) (now text) here ⌝ ∗ ⌜ Countable here 4 (length (now raw) + length (now value)) ⌝ }
+    ensures does { λ r. ⌜ Does (now (words .entry)) (now (text .entry)) (now (words .exit)) (now (text .exit)) here
+        (inserts (soughtKey key (now (raw .entry))) (leafOf kind (now (value .entry)))) (further (soughtKey key (now (raw .entry)))) r ⌝ }
+    ensures modest { λ r. ⌜ Modest here (length (now (raw .entry)) + length (now (value .entry))) r ⌝ }
+{
+    match entering::enter(words, text, here, key, raw) {
+        Performed::Made(there) => append_value(words, text, there, kind, value),
+        Performed::Refused(number) => Performed::Refused(number),
+    }
+}

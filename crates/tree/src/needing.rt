@@ -1,0 +1,68 @@
+// A map or a sequence needed at a record.
+ghost use mathlib.Core.Path.{_≡_};
+ghost use mathlib.Core.List.{List};
+ghost use Prim.Native.Nat.{ℕ, _<_};
+ghost use Rattle.records.specs.Words.{kindWord, mapKind, sequenceKind};
+ghost use Rattle.records.specs.Store.{recordCount, word};
+ghost use Rattle.tree.specs.Needing.{mapAnswer, sequenceAnswer, becomes};
+ghost use Rattle.tree.specs.Commands.{Does, needsMap, needsSequence, stays};
+use crate::Here;
+use crate::Performed;
+use crate::refusals;
+use records::store;
+use records::store::ValueWords;
+
+// Needs a map at the record: Uninitialized becomes Map, a Map serves, the rest refuse. Nothing else changes.
+pub fn expect_map(words: &mut [u32], here: Here) -> Performed
+    requires { ⌜ here .node < recordCount (now words) ⌝ }
+    ensures words { λ r. ⌜ (r ≡ mapAnswer here (word (now (words .entry)) (here .node) kindWord))
+        × (now (words .exit) ≡ becomes (now (words .entry)) (here .node) mapKind) ⌝ }
+    ensures does { λ r. ⌜ ((text : List ℕ) → Does (now (words .entry)) text (now (words .exit)) text here needsMap stays r) ⌝ }
+{
+    let kind = store::get_word(words, here.node, store::KIND);
+    if kind == store::UNINITIALIZED {
+        let map = ValueWords {
+            kind: store::MAP,
+            offset: 0,
+            len: 0,
+        };
+        store::set_value(words, here.node, map);
+        return Performed::Made(here);
+    }
+    if kind == store::MAP {
+        return Performed::Made(here);
+    }
+    if kind == store::SEQUENCE {
+        return Performed::Refused(refusals::MAP_ON_SEQUENCE);
+    }
+    if kind == store::STRING {
+        return Performed::Refused(refusals::MAP_ON_STRING);
+    }
+    Performed::Refused(refusals::MAP_ON_NULL)
+}
+
+// Needs a sequence at the record, for `[]`: Uninitialized becomes Sequence, a Sequence serves, the rest refuse. Nothing else changes.
+pub fn expect_sequence(words: &mut [u32], here: Here) -> Performed
+    requires { ⌜ here .node < recordCount (now words) ⌝ }
+    ensures words { λ r. ⌜ (r ≡ sequenceAnswer here (word (now (words .entry)) (here .node) kindWord))
+        × (now (words .exit) ≡ becomes (now (words .entry)) (here .node) sequenceKind) ⌝ }
+    ensures does { λ r. ⌜ ((text : List ℕ) → Does (now (words .entry)) text (now (words .exit)) text here needsSequence stays r) ⌝ }
+{
+    let kind = store::get_word(words, here.node, store::KIND);
+    if kind == store::UNINITIALIZED {
+        let sequence = ValueWords {
+            kind: store::SEQUENCE,
+            offset: 0,
+            len: 0,
+        };
+        store::set_value(words, here.node, sequence);
+        return Performed::Made(here);
+    }
+    if kind == store::SEQUENCE {
+        return Performed::Made(here);
+    }
+    if kind == store::MAP {
+        return Performed::Refused(refusals::SEQUENCE_ON_MAP);
+    }
+    Performed::Refused(refusals::SEQUENCE_ON_SINGLE)
+}

@@ -1,0 +1,248 @@
+//! `qs_parse`, held against the crate's own `parse` (trees, numbers, places) and against the model (every word and byte, and
+//! buffers of every small size). `COMPARE=whole` in the environment makes the random part twenty times as large.
+
+mod common;
+
+use common::inputs::{long_query, query, BYTES};
+use common::{every_string, reference_is_there, tree, Random};
+use qs::{Config, Reading};
+
+const WIDTH: usize = model::WIDTH;
+
+/// What the buffers hold before a reading.
+const BEFORE: u8 = 7;
+
+/// How often a random comparison is made, where one in the gate makes `few`.
+fn times(few: usize) -> usize {
+    match std::env::var("COMPARE").as_deref() {
+        Ok("whole") => 20 * few,
+        _ => few,
+    }
+}
+
+/// A reading with so many words and bytes lent, and what it leaves.
+fn parse(config: Config, input: &[u8], words: usize, bytes: usize) -> model::Outcome {
+    let mut words = vec![BEFORE.into(); words];
+    let mut text = vec![BEFORE; bytes];
+    let Reading {
+        number,
+        place,
+        records,
+        bytes,
+    } = qs::parse(config, input, &mut words, &mut text);
+    model::Outcome {
+        number,
+        place,
+        records,
+        bytes,
+        words,
+        text,
+    }
+}
+
+/// How often each number was answered.
+#[derive(Default)]
+struct Counts([usize; 16]);
+
+impl Counts {
+    /// With n + 1 records and n text bytes: the crate's tree, or its refusal and place.
+    fn with_the_crate(&mut self, config: Config, input: &[u8]) {
+        let outcome = parse(config, input, (input.len() + 1) * WIDTH, input.len());
+        self.0[outcome.number as usize] += 1;
+        let expected = serde_qs_reference::parse(input, config.depth as usize, config.form);
+        let got = match outcome.number {
+            0 => Ok(tree(&outcome.words, &outcome.text)),
+            number => Err((number, outcome.place as usize)),
+        };
+        assert_eq!(got, expected, "{config:?} '{}'", input.escape_ascii());
+    }
+
+    /// With any buffers: everything that the model says.
+    fn with_the_model(&mut self, config: Config, input: &[u8], words: usize, bytes: usize) {
+        let outcome = parse(config, input, words, bytes);
+        self.0[outcome.number as usize] += 1;
+        let settings = model::Config {
+            depth: config.depth,
+            form: config.form,
+        };
+        let expected = model::read(
+            settings,
+            input,
+            &vec![BEFORE.into(); words],
+            &vec![BEFORE; bytes],
+        );
+        assert_eq!(
+            outcome,
+            expected,
+            "{config:?}, {words} words, {bytes} bytes: '{}'",
+            input.escape_ascii()
+        );
+    }
+
+    fn report(&self, what: &str, numbers: &[usize]) {
+        println!("{what}: answers 0 to 15 came {:?} times", self.0);
+        for &number in numbers {
+            assert!(self.0[number] > 0, "{what} had no answer {number}");
+        }
+    }
+}
+
+fn configs() -> impl Iterator<Item = Config> {
+    [0, 1, 2, 5]
+        .into_iter()
+        .flat_map(|depth| [false, true].map(|form| Config { depth, form }))
+}
+
+fn random_config(random: &mut Random) -> Config {
+    Config {
+        depth: [0, 1, 2, 3, 5, 64][random.below(6)],
+        form: random.below(2) == 1,
+    }
+}
+
+#[test]
+fn every_short_input() {
+    if !reference_is_there() {
+        return;
+    }
+    let mut counts = Counts::default();
+    for config in configs() {
+        every_string(BYTES, 5, |input| counts.with_the_crate(config, input));
+    }
+    counts.report(
+        "every input of up to 5 bytes over 12, at 8 settings",
+        &[0, 4, 5, 6, 8, 9, 10, 11, 12, 13],
+    );
+}
+
+#[test]
+fn random_and_damaged_inputs() {
+    if !reference_is_there() {
+        return;
+    }
+    let mut random = Random::new(11);
+    let mut counts = Counts::default();
+    for _ in 0..times(100_000) {
+        let config = random_config(&mut random);
+        let pairs = 1 + random.below(8);
+        let input = query(&mut random, pairs);
+        counts.with_the_crate(config, &input);
+    }
+    for _ in 0..times(20) {
+        let config = random_config(&mut random);
+        let length = random.below(65_536);
+        let input = long_query(&mut random, length);
+        counts.with_the_crate(config, &input);
+        let pairs = random.below(2_000);
+        let input = query(&mut random, pairs);
+        counts.with_the_crate(config, &input[..input.len().min(65_535)]);
+    }
+    counts.report(
+        "random and damaged inputs",
+        &[0, 4, 5, 6, 7, 8, 9, 10, 11, 12, 13],
+    );
+}
+
+#[test]
+fn every_small_buffer() {
+    let mut counts = Counts::default();
+    for config in configs() {
+        every_string(b"a0[]&=%", 4, |input| {
+            for words in [0, 7, 8, 15, 16, 24, 32, 40] {
+                for bytes in 0..5 {
+                    counts.with_the_model(config, input, words, bytes);
+                }
+            }
+        });
+    }
+    counts.report(
+        "every input of up to 4 bytes over 7, in 40 sizes",
+        &[0, 3, 4, 5, 14, 15],
+    );
+}
+
+#[test]
+fn random_buffers() {
+    let mut random = Random::new(12);
+    let mut counts = Counts::default();
+    for _ in 0..times(100_000) {
+        let config = random_config(&mut random);
+        let pairs = 1 + random.below(6);
+        let input = query(&mut random, pairs);
+        let words = random.below(18 * WIDTH);
+        let bytes = random.below(24);
+        counts.with_the_model(config, &input, words, bytes);
+        counts.with_the_model(config, &input, (input.len() + 1) * WIDTH, input.len());
+    }
+    let all: Vec<usize> = (0..16).filter(|number| ![1, 2].contains(number)).collect();
+    counts.report("random inputs in random buffers", &all);
+}
+
+#[test]
+fn limits() {
+    let mut counts = Counts::default();
+    let usual = Config::default();
+    for depth in [0, 5, 63, 64, 65, 66, u32::MAX] {
+        for form in [false, true] {
+            counts.with_the_model(Config { depth, form }, b"a[b]=1", 48, 12);
+        }
+    }
+    for length in [65_534, 65_535, 65_536, 65_537] {
+        for piece in [&b"&"[..], b"a", b"a&", b"a[b]=1&", b"%41+", b"[]&"] {
+            let input: Vec<u8> = piece.iter().copied().cycle().take(length).collect();
+            counts.with_the_model(usual, &input, (length + 1) * WIDTH, length);
+            counts.with_the_model(usual, &input, 64, 64);
+        }
+    }
+    let nested = b"a"
+        .iter()
+        .chain(b"[b]".iter().cycle().take(3 * 70))
+        .copied()
+        .collect::<Vec<_>>();
+    for depth in [1, 5, 63, 64] {
+        counts.with_the_model(
+            Config { depth, form: false },
+            &nested,
+            (nested.len() + 1) * WIDTH,
+            nested.len(),
+        );
+    }
+    counts.report("both sides of each limit", &[0, 1, 2, 14]);
+}
+
+/// The cases that document 01 and the design name, executed.
+#[test]
+fn named_cases() {
+    let usual = Config::default();
+    let answer = |config, input: &str, words, bytes| {
+        let outcome = parse(config, input.as_bytes(), words, bytes);
+        (
+            outcome.number,
+            outcome.place,
+            outcome.records,
+            outcome.bytes,
+        )
+    };
+    assert_eq!(answer(usual, "&&a", 32, 3), (0, 0, 2, 1));
+    assert_eq!(answer(usual, "ab&%61b", 64, 2), (0, 0, 4, 2));
+    assert_eq!(answer(usual, "a&a", 24, 2), (14, 4, 0, 0));
+    assert_eq!(parse(usual, b"a&a", 32, 2).text, [b'a', 0]);
+    assert_eq!(answer(usual, "a&a", 32, 2), (0, 0, 4, 1));
+    // spare words make no record, and are cleared
+    let spare = parse(usual, b"", 15, 0);
+    assert_eq!((spare.number, spare.records), (0, 1));
+    assert_eq!(spare.words, [5, 0, 0, 0, 0, 0, 0, 0, 0, 0, 0, 0, 0, 0, 0]);
+    assert_eq!(answer(usual, "a", 15, 1), (14, 2, 0, 0));
+    let few = parse(usual, b"a", 7, 1);
+    assert_eq!((few.number, few.place), (3, 0));
+    assert_eq!((few.words, few.text), (vec![7; 7], vec![7]));
+    let longest = "&".repeat(65_535);
+    assert_eq!(answer(usual, &longest, 8, 0), (0, 0, 1, 0));
+    assert_eq!(answer(usual, &(longest + "&"), 8, 0), (2, 0, 0, 0));
+    let depth = |depth| Config { depth, form: false };
+    assert_eq!(answer(depth(64), "a", 16, 1), (0, 0, 2, 1));
+    assert_eq!(answer(depth(65), "a", 16, 1), (1, 0, 0, 0));
+    // slips that the starred list alone doesn't catch
+    assert_eq!(answer(usual, "a[b&c=d]=1", 48, 12), (0, 0, 3, 7));
+    assert_eq!(answer(usual, "a=&a=1", 48, 12), (0, 0, 4, 2));
+}
