@@ -22,15 +22,15 @@ use Rattle.reading.proofs.Adds.{tally, count, countAll, below}
 use Rattle.reading.proofs.Held.{Held}
 
 -- A record's words.
-record Row (w : List ℕ) (m : ℕ) (l : Label) (v : Value) (ds : Forest) : Type 0 where
-  w0 : word w m 0 ≡ kind v
-  w1 : word w m 1 ≡ getD (keyWords l) 0 0
-  w2 : word w m 2 ≡ getD (keyWords l) 1 0
-  w3 : word w m 3 ≡ getD (keyWords l) 2 0
-  w4 : word w m 4 ≡ textOffset v
-  w5 : word w m 5 ≡ textLength v
-  w6 : word w m 6 ≡ firstChild v
-  w7 : word w m 7 ≡ first ds
+pub record Row (w : List ℕ) (m : ℕ) (l : Label) (v : Value) (ds : Forest) : Type 0 where
+  pub w0 : word w m 0 ≡ kind v
+  pub w1 : word w m 1 ≡ getD (keyWords l) 0 0
+  pub w2 : word w m 2 ≡ getD (keyWords l) 1 0
+  pub w3 : word w m 3 ≡ getD (keyWords l) 2 0
+  pub w4 : word w m 4 ≡ textOffset v
+  pub w5 : word w m 5 ≡ textLength v
+  pub w6 : word w m 6 ≡ firstChild v
+  pub w7 : word w m 7 ≡ first ds
 
 -- The words one by one: those of the key stand in the middle.
 spelled : (l : Label) (v : Value) (ds : Forest)
@@ -56,7 +56,7 @@ row w m l v ds h =
 
 -- The words hold the record of every value below. Record 0, the root, is no child.
 abbrev mutual
-  Rows : List ℕ → Value → Type 0
+  pub Rows : List ℕ → Value → Type 0
   Rows w uninitialized = Unit
   Rows w null = Unit
   Rows w noValue = Unit
@@ -64,7 +64,7 @@ abbrev mutual
   Rows w (map cs) = RowsAll w cs
   Rows w (sequence cs) = RowsAll w cs
 
-  RowsAll : List ℕ → Forest → Type 0
+  pub RowsAll : List ℕ → Forest → Type 0
   RowsAll w none = Unit
   RowsAll w (child m l v cs) = Row w m l v cs × (m ≡ 0 → ⊥) × Rows w v × RowsAll w cs
 
@@ -238,24 +238,26 @@ below-one i n = go (ltb i n)
     go true = omega arith
     go false = omega arith
 
--- The words of a tree and its text hold it, with anything behind them.
+-- The words of a tree hold the record of each of its values, with anything behind them.
+module _ (v : Value) (n : ℕ) (t zs : List ℕ) (h : Held v n t) where
+  finds : FindsAll (layout n v ++ zs) (child 0 unkeyed v none) (λ i. blank)
+  finds i c j k =
+      let m : i < n = below-lt i n (omega (arith, h .numbers i)) in
+      let e : 0 + i ≡ i = omega arith in
+      List·getD-append (layout n v) zs 0 (i * recordWidth + j) (omega (arith, records-length n 0 (child 0 unkeyed v none))) ∙ records-at n 0 i j (child 0 unkeyed v none) m k
+      ∙ ap (λ (r : ℕ). getD (recordAmong r (child 0 unkeyed v none) blank) j 0) e
+
+  pub root-row : Row (layout n v ++ zs) 0 unkeyed v none
+  root-row = first-row (layout n v ++ zs) 0 unkeyed v none (λ i. blank) finds
+
+  pub layout-rows : Rows (layout n v ++ zs) v
+  layout-rows =
+      rows v (layout n v ++ zs) (λ i. recordAmong i none blank) (λ i. omega (arith, h .numbers i, below-one i n)) (omega (arith, h .numbers 0, below-one 0 n))
+      (finds-below (layout n v ++ zs) 0 unkeyed v none (λ i. blank) finds (λ i. omega (arith, h .numbers i, below-one i n)))
+
+-- Read back, with any text behind the tree's.
 pub held-back : (v : Value) (n : ℕ) (t zs y : List ℕ) → Held v n t → treeIn (layout n v ++ zs) (t ++ y) ≡ plain v
 held-back v n t zs y h =
-    value-back v (length w) w (t ++ y) 0 unkeyed none (first-row w 0 unkeyed v none d finds)
-    (rows v w (λ i. recordAmong i none (d i)) (λ i. omega (arith, h .numbers i, below-one i n)) (omega (arith, h .numbers 0, below-one 0 n))
-    (finds-below w 0 unkeyed v none d finds (λ i. omega (arith, h .numbers i, below-one i n))))
+    value-back v (length (layout n v ++ zs)) (layout n v ++ zs) (t ++ y) 0 unkeyed none (root-row v n t zs h) (layout-rows v n t zs h)
     (laid-more t y v (h .texts))
     (omega (arith, length-append (layout n v) zs, records-length n 0 (child 0 unkeyed v none), h .sizes))
-  where
-    w : List ℕ
-    w = layout n v ++ zs
-
-    d : ℕ → List ℕ
-    d i = blank
-
-    finds : FindsAll w (child 0 unkeyed v none) d
-    finds i c j k =
-        let m : i < n = below-lt i n (omega (arith, h .numbers i)) in
-        let e : 0 + i ≡ i = omega arith in
-        List·getD-append (layout n v) zs 0 (i * recordWidth + j) (omega (arith, records-length n 0 (child 0 unkeyed v none))) ∙ records-at n 0 i j (child 0 unkeyed v none) m k
-        ∙ ap (λ (r : ℕ). getD (recordAmong r (child 0 unkeyed v none) blank) j 0) e

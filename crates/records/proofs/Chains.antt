@@ -32,7 +32,7 @@ chain-step ws (suc f) (suc m) n h = ap (λ (l : List ℕ). suc m ∷ l) (sym (ch
 
 -- A record of a list that ends, and the rest of the list.
 module _ (ws : List ℕ) {cur : ℕ} (e : Ends ws cur) (n : cur ≢ 0) where
-  step : chain ws (recordCount ws) cur ≡ cur ∷ chain ws (recordCount ws) (word ws cur nextWord)
+  pub step : chain ws (recordCount ws) cur ≡ cur ∷ chain ws (recordCount ws) (word ws cur nextWord)
   step = chain-step ws (recordCount ws) cur n (e .1)
 
   parts : Within 0 (recordCount ws) (cur ∷ chain ws (recordCount ws) (word ws cur nextWord))
@@ -44,7 +44,7 @@ module _ (ws : List ℕ) {cur : ℕ} (e : Ends ws cur) (n : cur ≢ 0) where
   pub chain-falls : length (chain ws (recordCount ws) (word ws cur nextWord)) < length (chain ws (recordCount ws) cur)
   chain-falls = rw step (omega arith)
 
-  ends-next : Ends ws (word ws cur nextWord)
+  pub ends-next : Ends ws (word ws cur nextWord)
   ends-next = (parts .2, omega (arith, chain-falls, e .1))
 
 -- The loop of `walk`: the place in the rest of the list is the place in the whole.

@@ -52,7 +52,7 @@ pub fn find(words: &[u32], text: &[u8], parent: u32, key: Sought, raw: &[u8]) ->
 }
 
 // The last child of a record, or 0.
-pub(crate) fn last_child(words: &[u32], parent: u32) -> u32
+pub fn last_child(words: &[u32], parent: u32) -> u32
     requires { ⌜ Linked (now words) ⌝ ∗ ⌜ parent < recordCount (now words) ⌝ }
     ensures { λ r. ⌜ r ≡ lastOf 0 (children (now (words .entry)) parent) ⌝ }
 {

@@ -1,0 +1,10 @@
+pub mod Comparisons
+pub mod Texts
+pub mod Siblings
+pub mod Fields
+pub mod Lists
+pub mod Stored
+pub mod Agree
+pub mod AfterReading
+pub mod Answered
+pub mod Examples

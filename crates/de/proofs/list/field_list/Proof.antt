@@ -1,0 +1,70 @@
+use mathlib.Core.Path.{sym, _∙_}
+use borrow.Author.Needs.{needs}
+use Rattle.de.proofs.Lists.{zero-list, field-found, field-none}
+use Rattle.de.proofs.Fields.{field-inside}
+use Rattle.de.proofs.list.field_list.Statement.{statement}
+use Rattle.de.proofs.list.field_list.Tie as tie
+
+clear-requires : tie.Need-clear-requires
+clear-requires c κs = search needs
+
+root-field-requires : tie.Need-root-field-requires
+root-field-requires c κs = search needs
+
+enum-known-n : tie.Need-enum-known-n
+enum-known-n c = search needs
+
+read-or-clear-requires : tie.Need-read-or-clear-requires
+read-or-clear-requires c κs =
+    let at-n = c .before .before in
+    let at-root-field = at-n .before .before in
+    let at-clear = at-root-field .before .before .before in
+    let start = at-clear .before .before .before .before .before .before in (
+      start .pre .0,
+      (
+        field-inside (start .args .words .now) (start .args .text .now) (start .args .name .now) _ (start .pre .0 .formed .links)
+            (start .pre .1) (sym (at-n .n .given .1) ∙ at-root-field .root-field .ensures),
+        zero-list (start .args .list .now) (at-clear .clear .ensures),
+      ),
+    )
+
+enum-known-refusal : tie.Need-enum-known-refusal
+enum-known-refusal c = search needs
+
+same-length : tie.Need-same-length
+same-length c = search needs
+
+returns : tie.Need-returns
+returns c =
+    let at-read-or-clear = c .before .before in
+    let at-n = at-read-or-clear .before .before .before in
+    let at-root-field = at-n .before .before in
+    let at-clear = at-root-field .before .before .before in
+    let start = at-clear .before .before .before .before .before .before in
+    field-found (start .args .duplicates) (start .args .words .now) (start .args .text .now) (start .args .list .now) (at-clear .clear .ensures)
+    (sym (at-root-field .root-field .ensures) ∙ at-n .n .given .1) (at-read-or-clear .read-or-clear .ensures)
+
+same-length-2 : tie.Need-same-length-2
+same-length-2 c = search needs
+
+returns-2 : tie.Need-returns-2
+returns-2 c =
+    let at-root-field = c .before .before .before in
+    let at-clear = at-root-field .before .before .before in
+    let start = at-clear .before .before .before .before .before .before in
+    field-none (start .args .duplicates) (start .args .words .now) (start .args .text .now) (start .args .list .now) (at-clear .clear .ensures) (sym
+    (at-root-field .root-field .ensures) ∙ c .before .refusal .given .1)
+
+pub field-list-spec : {M : Type 1} → statement M
+field-list-spec =
+    tie.close
+    (tie.spec
+    clear-requires
+    root-field-requires
+    enum-known-n
+    read-or-clear-requires
+    enum-known-refusal
+    same-length
+    returns
+    same-length-2
+    returns-2)

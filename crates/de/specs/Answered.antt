@@ -1,0 +1,33 @@
+-- Document 01, 'Field reads': "offset and length in text". Every text that is answered lies in the used text and is UTF-8. Proved in
+-- proofs/Answered.
+use Prim.Native.Nat.{ℕ, _+_, _*_, _<_, _≤_}
+use mathlib.Core.Path.{_≡_}
+use mathlib.Core.List.{List}
+use lib.ListN.{getD}
+use Rattle.config.specs.declared.Config.{Config}
+use Rattle.utf8.specs.Grammar.{Utf8}
+use Rattle.reading.specs.Buffers.{textPart}
+use Rattle.de.specs.declared.DuplicateKeyBehavior.{DuplicateKeyBehavior}
+use Rattle.de.specs.Reads.{TextOutcome, textRead, ListOutcome, listRead}
+
+pub record ValidText (o : TextOutcome) (offset len : ℕ) : Type 0 where
+  pub inside : offset + len ≤ o .answer .bytes
+  pub valid : Utf8 (textPart (o .text) offset len)
+
+abbrev pub TextAnswered : Type 0
+TextAnswered =
+    (config : Config) (duplicates : DuplicateKeyBehavior) (input name words text : List ℕ)
+    → (textRead config duplicates input name words text) .answer .number ≡ 0
+    → ValidText (textRead config duplicates input name words text) ((textRead config duplicates input name words text) .answer .offset)
+    ((textRead config duplicates input name words text) .answer .len)
+
+-- Of a list, the text of each element.
+abbrev pub ValidElements : ListOutcome → Type 0
+ValidElements o =
+    (i : ℕ) → i < o .read .answer .len → ValidText (o .read) (getD (o .list) (2 * i) 0) (getD (o .list) (2 * i + 1) 0)
+
+abbrev pub ListAnswered : Type 0
+ListAnswered =
+    (config : Config) (duplicates : DuplicateKeyBehavior) (input name words text list : List ℕ)
+    → (listRead config duplicates input name words text list) .read .answer .number ≡ 0
+    → ValidElements (listRead config duplicates input name words text list)

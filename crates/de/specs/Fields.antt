@@ -1,0 +1,39 @@
+-- Document 01, 'Field reads': the field of a name.
+use Prim.Native.Nat.{ℕ}
+use mathlib.Core.Bool.{Bool, true, false, cond}
+use mathlib.Core.List.{List, [], _∷_}
+use lib.Dec.{eqb}
+use Rattle.reading.specs.Values.{Label, unkeyed, intKey, stringKey, Value, uninitialized, null, noValue, string, map, sequence, Forest, none, child}
+use Rattle.de.specs.declared.refusals.Refusal.{Refusal}
+use Rattle.de.specs.declared.refusals.Refusal.the-variants.{WrongRoot, NoSuchField}
+
+-- The field's value, or a refusal.
+pub data Field : Type 0 where
+  found : Value → Field
+  refused : Refusal → Field
+
+unfoldable pub sameBytes : List ℕ → List ℕ → Bool
+sameBytes [] [] = true
+sameBytes [] (y ∷ ys) = false
+sameBytes (x ∷ xs) [] = false
+sameBytes (x ∷ xs) (y ∷ ys) = cond (eqb x y) (sameBytes xs ys) false
+
+-- "as a String key only": the key's bytes are the name's, which is not decoded.
+abbrev pub isNamed : List ℕ → Label → Bool
+isNamed name unkeyed = false
+isNamed name (intKey a) = false
+isNamed name (stringKey o x) = sameBytes x name
+
+abbrev pub named : List ℕ → Forest → Field
+named name none = refused NoSuchField
+named name (child number label value later) = cond (isNamed name label) (found value) (named name later)
+
+-- "A NoValue or Null root has no fields; a String root has the empty name only"; 16 is "root Sequence or Uninitialized", 17 "no such field".
+abbrev pub rootField : List ℕ → Value → Field
+rootField name uninitialized = refused WrongRoot
+rootField name null = refused NoSuchField
+rootField name noValue = refused NoSuchField
+rootField [] (string o x) = found (string o x)
+rootField (b ∷ s) (string o x) = refused NoSuchField
+rootField name (map children) = named name children
+rootField name (sequence children) = refused WrongRoot

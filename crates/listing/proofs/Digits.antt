@@ -1,0 +1,67 @@
+-- Decimal and hex: their digits one by one.
+use mathlib.Core.Path.{_≡_, refl, sym, ap, _∙_}
+use mathlib.Core.Bool.{cond}
+use mathlib.Core.List.{List, [], _∷_, _++_}
+use Prim.Native.Nat.{ℕ, zero, suc, _+_, _-_, _*_, _/_, _%_, _≤_, _<_}
+use native.Mathlib.Omega.{arith}
+use borrow.Author.Tests.{lt-ltb, le-ltb}
+use lib.Dec.{ltb}
+use lib.ListN.{length, drop, getD, drop-of-length-le}
+use Rattle.laws.proofs.Cases.{below}
+use Rattle.laws.proofs.Lists.{drop-1}
+use Rattle.key.specs.Keys.{valueFrom}
+use Rattle.listing.specs.Numbers.{decimalIn, decimal, hexDigit, hex}
+use Rattle.listing.specs.Output.{Page, Puts}
+use Rattle.listing.proofs.Pages.{puts-then, puts-same}
+
+pub hex-more : (s : List ℕ) (i : ℕ) {h l : ℕ} → i < length s → h ≡ hexDigit (getD s i 0 / 16) → l ≡ hexDigit (getD s i 0 % 16)
+    → hex (drop i s) ≡ h ∷ l ∷ hex (drop (i + 1) s)
+unfolding hex
+hex-more s i q d e = rw (drop-1 s i q, d, e)
+
+pub hex-done : (s : List ℕ) (i : ℕ) → length s ≤ i → hex (drop i s) ≡ []
+unfolding hex
+hex-done s i h = rw (drop-of-length-le s h)
+
+-- From as many steps as the number's value on, their count makes no difference.
+decimal-enough : (j k n : ℕ) → n ≤ j → n ≤ k → decimalIn j n ≡ decimalIn k n
+unfolding decimalIn
+decimal-enough zero zero n p q = refl
+decimal-enough zero (suc k) n p q = rw (lt-ltb n 10 (omega arith))
+decimal-enough (suc j) zero n p q = rw (lt-ltb n 10 (omega arith))
+decimal-enough (suc j) (suc k) n p q =
+    below n 10 (λ h. rw (lt-ltb n 10 h)) (λ h. ap (λ front. cond (ltb n 10) [] front ++ ((48 + n % 10) ∷ [])) (decimal-enough j k (n / 10) (omega arith) (omega arith)))
+
+decimal-digit : (n : ℕ) → n < 10 → decimal n ≡ (48 + n % 10) ∷ []
+unfolding decimal decimalIn
+decimal-digit n h = decimal-enough n (suc n) n (omega arith) (omega arith) ∙ rw (lt-ltb n 10 h)
+
+decimal-more : (n : ℕ) → 10 ≤ n → decimal n ≡ decimal (n / 10) ++ ((48 + n % 10) ∷ [])
+unfolding decimal decimalIn
+decimal-more n h =
+    decimal-enough n (suc n) n (omega arith) (omega arith)
+    ∙ rw (le-ltb n 10 h) (ap (λ front. front ++ ((48 + n % 10) ∷ [])) (decimal-enough n (n / 10) (n / 10) (omega arith) (omega arith)))
+
+pub puts-digit : {p p₁ : Page} (n : ℕ) → n < 10 → Puts ((48 + n % 10) ∷ []) p p₁ → Puts (decimal n) p p₁
+puts-digit n h e = puts-same e (sym (decimal-digit n h))
+
+pub puts-digits : {p p₁ p₂ : Page} (n : ℕ) → 10 ≤ n → Puts (decimal (n / 10)) p p₁ → Puts ((48 + n % 10) ∷ []) p₁ p₂ → Puts (decimal n) p p₂
+puts-digits n h e f = puts-same (puts-then e f) (sym (decimal-more n h))
+
+-- The digits of a number have its value.
+value-last : (s : List ℕ) (v d : ℕ) → valueFrom v (s ++ (d ∷ [])) ≡ valueFrom v s * 10 + (d - 48)
+unfolding valueFrom
+value-last [] v d = refl
+value-last (b ∷ s) v d = value-last s (v * 10 + (b - 48)) d
+
+decimal-in-value : (more n : ℕ) → n ≤ more → valueFrom 0 (decimalIn more n) ≡ n
+unfolding decimalIn valueFrom
+decimal-in-value zero n h = omega arith
+decimal-in-value (suc more) n h =
+    below n 10 (λ g. rw (lt-ltb n 10 g) (omega arith))
+    (λ g.
+    rw (le-ltb n 10 g) (value-last (decimalIn more (n / 10)) 0 (48 + n % 10) ∙ omega (arith, decimal-in-value more (n / 10) (omega arith))))
+
+pub decimal-value : (n : ℕ) → valueFrom 0 (decimal n) ≡ n
+unfolding decimal
+decimal-value n = decimal-in-value n n (omega arith)

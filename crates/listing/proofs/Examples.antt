@@ -1,0 +1,20 @@
+-- The examples, decided by computing the definitions.
+use mathlib.Core.Path.{refl}
+use mathlib.Core.List.{flatten, flatMap}
+use Rattle.decode.specs.Hex.{digitOf}
+use Rattle.decode.specs.Decoding.{decoded}
+use Rattle.key.specs.Keys.{allDigits, valueFrom}
+use Rattle.reading.specs.Reading.{reading}
+use Rattle.listing.specs.Numbers.{decimalIn, decimal, hex}
+use Rattle.listing.specs.Lines.{ownLines, treeLines}
+use Rattle.listing.specs.Listing.{answerLines, listing}
+use Rattle.listing.specs.Heads.{begins, leadingDigits, flagIn, depthIn, headOf}
+use Rattle.listing.specs.Examples.{ExamplesPass, HeadsPass}
+
+pub examples-pass : ExamplesPass
+unfolding reading decoded digitOf allDigits valueFrom decimalIn decimal hex ownLines treeLines answerLines listing flatten flatMap
+examples-pass = refl
+
+pub heads-pass : HeadsPass
+unfolding begins leadingDigits valueFrom flagIn depthIn headOf
+heads-pass = refl

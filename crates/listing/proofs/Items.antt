@@ -1,0 +1,27 @@
+-- What is shown of a record's key and of its text.
+use mathlib.Core.Path.{_≡_}
+use mathlib.Core.Bool.{Bool, true, false}
+use mathlib.Core.List.{List, _++_}
+use Prim.Native.Nat.{ℕ}
+use borrow.Author.Tests.{eq-eqb, ne-eqb}
+use Rattle.reading.specs.Tests.{ascii}
+use Rattle.reading.specs.Buffers.{word, textPart}
+use Rattle.listing.specs.Numbers.{decimal, hex}
+use Rattle.listing.specs.Lines.{keyItem, textItem}
+use Rattle.listing.specs.Walking.{keyShown, childless}
+
+module _ (words text : List ℕ) (n : ℕ) (keyed : Bool) where
+  pub no-key : keyed ≡ false → ascii "-" ≡ keyItem (keyShown keyed words text n)
+  no-key e = rw e
+
+  pub int-key : (kind a : ℕ) → keyed ≡ true → kind ≡ word words n 1 → kind ≡ 1 → a ≡ word words n 2
+      → ascii "i" ++ decimal a ≡ keyItem (keyShown keyed words text n)
+  int-key kind a e f g h = rw (e, ← f, eq-eqb kind 1 g, h)
+
+  pub string-key : (kind offset len : ℕ) (x : List ℕ) → keyed ≡ true → kind ≡ word words n 1 → (kind ≡ 1 → ⊥)
+      → offset ≡ word words n 2 → len ≡ word words n 3 → x ≡ textPart text offset len → ascii "s" ++ hex x ≡ keyItem (keyShown keyed words text n)
+  string-key kind offset len x e f g h k l = rw (e, ← f, ne-eqb kind 1 g, l, h, k)
+
+pub string-text : (words text : List ℕ) (n kind offset len : ℕ) (x : List ℕ) → kind ≡ word words n 0 → kind ≡ 3 → offset ≡ word words n 4
+    → len ≡ word words n 5 → x ≡ textPart text offset len → hex x ≡ textItem (childless words text n)
+string-text words text n kind offset len x e f g h k = rw (← e, f, k, g, h)

@@ -1,0 +1,209 @@
+-- The walk of the writers over the records: enough steps are enough, and then the walk goes without them.
+use mathlib.Core.Path.{_≡_, refl, sym, ap, ap₂, _∙_}
+use mathlib.Core.Bool.{Bool, true, false, cond}
+use mathlib.Core.Option.{Option, none, some}
+use mathlib.Core.List.{List, [], _∷_, _++_, flatten}
+use Prim.Native.Nat.{ℕ, zero, suc, _+_, _-_, _*_, _/_, _≤_, _<_}
+use native.Mathlib.Omega.{arith}
+use borrow.Author.Tests.{eq-eqb, ne-eqb}
+use lib.Dec.{eqb}
+use lib.ListN.{length, take}
+use lib.Seq.{take-nil}
+use Rattle.key.specs.Keys.{Key}
+use Rattle.config.specs.Limits.{recordWidth}
+use Rattle.reading.specs.Trees.{Tree, uninitialized, null, noValue, string, map, sequence, noEntries, entry, noElements, element}
+use Rattle.reading.specs.Buffers.{word, textPart, treeAt, entriesAt, elementsAt, keyAt}
+use Rattle.listing.specs.Lines.{ownLines, treeLines, entryLines, elementLines}
+use Rattle.listing.specs.Bounded.{boundedValues}
+use Rattle.listing.specs.Walking.{keyShown, childless, recordLines, childLines, firstOfValue, firstOfSiblings}
+use Rattle.listing.proofs.ByKind.{lines-of-kind}
+
+-- The first n of two lists, one after the other.
+take-append : {A : Type 0} (n : ℕ) (xs ys : List A) → take n (xs ++ ys) ≡ take n xs ++ take (n - length (take n xs)) ys
+take-append zero [] ys = refl
+take-append zero (x ∷ xs) ys = refl
+take-append (suc n) [] ys = let e : suc n ≡ suc n - 0 = omega arith in ap (λ m. take m ys) e
+take-append (suc n) (x ∷ xs) ys =
+    let e : n - length (take n xs) ≡ suc n - suc (length (take n xs)) = omega arith in
+    ap (λ t. x ∷ t) (take-append n xs ys ∙ ap (λ m. take n xs ++ take m ys) e)
+
+-- The first n of a choice, and of two lists that agree so far.
+take-cond : {A : Type 0} (n : ℕ) (b c : Bool) (xs ys : List A) → take n (cond b xs (cond c ys [])) ≡ cond b (take n xs) (cond c (take n ys) [])
+take-cond n true c xs ys = refl
+take-cond n false true xs ys = refl
+take-cond n false false xs ys = take-nil n
+
+take-both : {A : Type 0} (b : Bool) (n : ℕ) (xs xs′ ys ys′ : List A) → take n xs ≡ take n xs′
+    → take (n - length (take n xs)) ys ≡ take (n - length (take n xs)) ys′ → take n (cond b [] (xs ++ ys)) ≡ take n (cond b [] (xs′ ++ ys′))
+take-both true n xs xs′ ys ys′ e f = refl
+take-both false n xs xs′ ys ys′ e f =
+    take-append n xs ys ∙ ap (λ t. take n xs ++ t) f ∙ ap (λ t. t ++ take (n - length t) ys′) e ∙ sym (take-append n xs′ ys′)
+
+-- A tree has a value at least.
+some-value : (v : Tree) (level : ℕ) (key : Option Key) (n : ℕ) → 1 ≤ length (take (suc n) (treeLines v level key))
+unfolding treeLines
+some-value (map es) level key n = omega arith
+some-value (sequence xs) level key n = omega arith
+some-value (string x) level key n = omega arith
+some-value null level key n = omega arith
+some-value noValue level key n = omega arith
+some-value uninitialized level key n = omega arith
+
+module _ (words text : List ℕ) where
+  -- The lines of the values below record i, by its kind.
+  abbrev below : ℕ → ℕ → ℕ → List (List ℕ)
+  below steps i level =
+      cond (eqb (word words i 0) 1) (childLines true steps words text (word words i 6) level)
+      (cond (eqb (word words i 0) 2) (childLines false steps words text (word words i 6) level) [])
+
+  tree-more : (steps i level : ℕ) (key : Option Key)
+      → treeLines (treeAt (suc steps) words text i) level key ≡ ownLines level key (childless words text i) ∷ below steps i (level + 1)
+  tree-more steps i level key =
+      lines-of-kind (word words i 0) (textPart text (word words i 4) (word words i 5)) (entriesAt steps words text (word words i 6))
+      (elementsAt steps words text (word words i 6)) level key
+
+  below-same : (n g h i level : ℕ)
+      → ((keyed : Bool) → take n (childLines keyed g words text (word words i 6) level) ≡ take n (childLines keyed h words text (word words i 6) level))
+      → take n (below g i level) ≡ take n (below h i level)
+  below-same n g h i level e =
+      let b = eqb (word words i 0) 1 in
+      let c = eqb (word words i 0) 2 in
+      take-cond n b c (childLines true g words text (word words i 6) level) (childLines false g words text (word words i 6) level)
+      ∙ ap₂ (λ x y. cond b x (cond c y [])) (e true) (e false)
+      ∙ sym (take-cond n b c (childLines true h words text (word words i 6) level) (childLines false h words text (word words i 6) level))
+
+  child-more : (keyed : Bool) (steps i level : ℕ) → childLines keyed (suc steps) words text i level
+      ≡ cond (eqb i 0) [] (treeLines (treeAt steps words text i) level (keyShown keyed words text i) ++ childLines keyed steps words text (word words i 7) level)
+  unfolding treeLines
+  child-more true steps i level = go (eqb i 0)
+    where
+      go : (b : Bool) → entryLines (cond b noEntries (entry (keyAt words text i) (treeAt steps words text i) (entriesAt steps words text (word words i 7)))) level
+          ≡ cond b [] (treeLines (treeAt steps words text i) level (some (keyAt words text i)) ++ entryLines (entriesAt steps words text (word words i 7)) level)
+      go true = refl
+      go false = refl
+  child-more false steps i level = go (eqb i 0)
+    where
+      go : (b : Bool) → elementLines (cond b noElements (element (treeAt steps words text i) (elementsAt steps words text (word words i 7)))) level
+          ≡ cond b [] (treeLines (treeAt steps words text i) level none ++ elementLines (elementsAt steps words text (word words i 7)) level)
+      go true = refl
+      go false = refl
+
+  -- Two steps a value are enough.
+  mutual
+    pub tree-enough : (g h n i level : ℕ) (key : Option Key) → 2 * n ≤ g + 1 → 2 * n ≤ h + 1
+        → take n (treeLines (treeAt g words text i) level key) ≡ take n (treeLines (treeAt h words text i) level key)
+    tree-enough zero h zero i level key p q = refl
+    tree-enough zero h (suc n) i level key p q = absurd (omega arith)
+    tree-enough (suc g) zero zero i level key p q = refl
+    tree-enough (suc g) zero (suc n) i level key p q = absurd (omega arith)
+    tree-enough (suc g) (suc h) zero i level key p q = refl
+    tree-enough (suc g) (suc h) (suc n) i level key p q =
+        ap (take (suc n)) (tree-more g i level key)
+        ∙ ap (λ t. ownLines level key (childless words text i) ∷ t)
+        (below-same n g h i (level + 1) (λ keyed. child-enough g h n keyed (word words i 6) (level + 1) (omega arith) (omega arith)))
+        ∙ sym (ap (take (suc n)) (tree-more h i level key))
+
+    child-enough : (g h n : ℕ) (keyed : Bool) (i level : ℕ) → 2 * n ≤ g → 2 * n ≤ h
+        → take n (childLines keyed g words text i level) ≡ take n (childLines keyed h words text i level)
+    child-enough zero h zero keyed i level p q = refl
+    child-enough zero h (suc n) keyed i level p q = absurd (omega arith)
+    child-enough (suc g) zero zero keyed i level p q = refl
+    child-enough (suc g) zero (suc n) keyed i level p q = absurd (omega arith)
+    child-enough (suc g) (suc h) zero keyed i level p q = refl
+    child-enough (suc g) (suc h) (suc n) keyed i level p q =
+        let key = keyShown keyed words text i in
+        let next = word words i 7 in
+        let values = treeLines (treeAt g words text i) level key in
+        let some : 1 ≤ length (take (suc n) values) = some-value (treeAt g words text i) level key n in
+        ap (take (suc n)) (child-more keyed g i level)
+        ∙ take-both (eqb i 0) (suc n) values (treeLines (treeAt h words text i) level key) (childLines keyed g words text next level)
+        (childLines keyed h words text next level) (tree-enough g h (suc n) i level key (omega arith) (omega arith))
+        (child-enough g h (suc n - length (take (suc n) values)) keyed next level (omega arith) (omega arith))
+        ∙ sym (ap (take (suc n)) (child-more keyed h i level))
+
+  -- The first n values of the value at record i: itself, and the first n - 1 below it.
+  value-first : (n i : ℕ) (keyed : Bool) (level : ℕ) → 0 < n → firstOfValue n words text i keyed level
+      ≡ recordLines words text i keyed level
+      ∷ cond (eqb (word words i 0) 1) (firstOfSiblings (n - 1) words text (word words i 6) true (level + 1))
+      (cond (eqb (word words i 0) 2) (firstOfSiblings (n - 1) words text (word words i 6) false (level + 1)) [])
+  unfolding firstOfValue firstOfSiblings
+  value-first zero i keyed level h = absurd (omega arith)
+  value-first (suc n) i keyed level h =
+      let key = keyShown keyed words text i in
+      let own = recordLines words text i keyed level in
+      let b = eqb (word words i 0) 1 in
+      let c = eqb (word words i 0) 2 in
+      let lines : Bool → ℕ → List (List ℕ) = λ k steps. childLines k steps words text (word words i 6) (level + 1) in
+      let g = suc (2 * n) in
+      let e : 2 * suc n ≡ suc g = omega arith in
+      let f : n ≡ suc n - 1 = omega arith in
+      ap (λ steps. take (suc n) (treeLines (treeAt steps words text i) level key)) e
+      ∙ ap (take (suc n)) (tree-more g i level key)
+      ∙ ap (λ t. own ∷ t) (below-same n g (2 * n) i (level + 1) (λ k. child-enough g (2 * n) n k (word words i 6) (level + 1) (omega arith) (omega arith)))
+      ∙ ap (λ t. own ∷ t) (take-cond n b c (lines true (2 * n)) (lines false (2 * n)))
+      ∙ ap (λ m. own ∷ cond b (take m (lines true (2 * m))) (cond c (take m (lines false (2 * m))) [])) f
+
+  -- By its kind: a Map, a Sequence, any other.
+  module _ (n i : ℕ) (keyed : Bool) (level : ℕ) (some : 0 < n) {kind : ℕ} (at : kind ≡ word words i 0) where
+    pub map-first : {first : ℕ} → kind ≡ 1 → first ≡ word words i 6 → firstOfValue n words text i keyed level
+        ≡ recordLines words text i keyed level ∷ firstOfSiblings (n - 1) words text first true (level + 1)
+    map-first e to = value-first n i keyed level some ∙ rw (eq-eqb (word words i 0) 1 (sym at ∙ e), to)
+
+    pub sequence-first : {first : ℕ} → kind ≡ 2 → first ≡ word words i 6 → firstOfValue n words text i keyed level
+        ≡ recordLines words text i keyed level ∷ firstOfSiblings (n - 1) words text first false (level + 1)
+    sequence-first e to =
+        let f : word words i 0 ≡ 1 → ⊥ = omega arith in
+        value-first n i keyed level some ∙ rw (ne-eqb (word words i 0) 1 f, eq-eqb (word words i 0) 2 (sym at ∙ e), to)
+
+    pub single-first : (kind ≡ 1 → ⊥) → (kind ≡ 2 → ⊥) → firstOfValue n words text i keyed level
+        ≡ recordLines words text i keyed level ∷ []
+    single-first e f = value-first n i keyed level some ∙ rw (ne-eqb (word words i 0) 1 (λ g. e (at ∙ g)), ne-eqb (word words i 0) 2 (λ g. f (at ∙ g)))
+
+  -- The first n values from record i along its siblings: those of the value there, and then as many as are left of the later ones.
+  pub siblings-first : (n i : ℕ) (keyed : Bool) (level : ℕ) → (n ≡ 0 → ⊥) → (i ≡ 0 → ⊥) → firstOfSiblings n words text i keyed level
+      ≡ firstOfValue n words text i keyed level
+      ++ firstOfSiblings (n - length (firstOfValue n words text i keyed level)) words text (word words i 7) keyed level
+  unfolding firstOfValue firstOfSiblings
+  siblings-first zero i keyed level h k = absurd (h refl)
+  siblings-first (suc n) i keyed level h k =
+      let key = keyShown keyed words text i in
+      let next = word words i 7 in
+      let g = suc (2 * n) in
+      let values = treeLines (treeAt g words text i) level key in
+      let m = suc n - length (take (suc n) values) in
+      let e : 2 * suc n ≡ suc g = omega arith in
+      let some : 1 ≤ length (take (suc n) values) = some-value (treeAt g words text i) level key n in
+      ap (λ steps. take (suc n) (childLines keyed steps words text i level)) e
+      ∙ ap (take (suc n)) (child-more keyed g i level)
+      ∙ ap (λ b. take (suc n) (cond b [] (values ++ childLines keyed g words text next level))) (ne-eqb i 0 k)
+      ∙ take-append (suc n) values (childLines keyed g words text next level)
+      ∙ ap (λ t. take (suc n) values ++ t) (child-enough g (2 * m) m keyed next level (omega arith) (omega arith))
+      ∙ ap (λ t. t ++ take (suc n - length t) (childLines keyed (2 * (suc n - length t)) words text next level))
+      (tree-enough g (2 * suc n) (suc n) i level key (omega arith) (omega arith))
+
+  pub no-siblings : (n i : ℕ) (keyed : Bool) (level : ℕ) → i ≡ 0 → firstOfSiblings n words text i keyed level ≡ []
+  unfolding firstOfSiblings
+  no-siblings zero i keyed level e = refl
+  no-siblings (suc n) i keyed level e =
+      let g = suc (2 * n) in
+      let f : 2 * suc n ≡ suc g = omega arith in
+      let values = treeLines (treeAt g words text i) level (keyShown keyed words text i) in
+      ap (λ steps. take (suc n) (childLines keyed steps words text i level)) f
+      ∙ ap (take (suc n)) (child-more keyed g i level)
+      ∙ ap (λ b. take (suc n) (cond b [] (values ++ childLines keyed g words text (word words i 7) level))) (eq-eqb i 0 e)
+
+  pub first-some : (n i : ℕ) (keyed : Bool) (level : ℕ) → 0 < n → 1 ≤ length (firstOfValue n words text i keyed level)
+  first-some n i keyed level h = rw (value-first n i keyed level h) (omega arith)
+
+  pub none-left : (n i : ℕ) (keyed : Bool) (level : ℕ) → n ≡ 0 → firstOfSiblings n words text i keyed level ≡ []
+  unfolding firstOfSiblings
+  none-left n i keyed level e = rw e
+
+  -- From the root on.
+  pub root-first : boundedValues words text ≡ firstOfValue (length words / recordWidth) words text 0 false 0
+  unfolding firstOfValue
+  root-first = let n = length words / recordWidth in tree-enough (length words) (2 * n) n 0 0 none (omega arith) (omega arith)
+
+  pub no-records : length words / recordWidth ≡ 0 → [] ≡ flatten (boundedValues words text)
+  unfolding flatten
+  no-records e = sym (rw e)

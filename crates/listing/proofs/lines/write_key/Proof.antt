@@ -1,0 +1,75 @@
+use native.Mathlib.Omega.{arith}
+use borrow.Author.Tests.{not-true, not-false}
+use Rattle.listing.proofs.Pages.{puts-then, puts-same}
+use Rattle.listing.proofs.Items.{no-key, int-key, string-key}
+use Rattle.listing.proofs.lines.write_key.Statement.{statement}
+use Rattle.listing.proofs.lines.write_key.Tie as tie
+
+write-byte-requires : tie.Need-write-byte-requires
+write-byte-requires c κs = tt
+
+same-length : tie.Need-same-length
+same-length c = omega arith
+
+returns : tie.Need-returns
+returns c = let s = c .before .before .before .before .before .before .before .before .args in puts-same (c .before .before .write-byte .ensures) (no-key (s .words .now) (s .text .now) (s .n) (s .keyed) (not-true (s .keyed) (c .before .before .before .before .if1 .taken)))
+
+get-word-requires : tie.Need-get-word-requires
+get-word-requires c κs = omega arith
+
+get-word-requires-2 : tie.Need-get-word-requires-2
+get-word-requires-2 c κs = omega arith
+
+write-byte-requires-2 : tie.Need-write-byte-requires-2
+write-byte-requires-2 c κs = tt
+
+cast-write-decimal : tie.Need-cast-write-decimal
+cast-write-decimal c = omega arith
+
+write-decimal-requires : tie.Need-write-decimal-requires
+write-decimal-requires c κs = tt
+
+same-length-2 : tie.Need-same-length-2
+same-length-2 c = omega arith
+
+returns-2 : tie.Need-returns-2
+returns-2 c = let s = c .before .before .before .before .before .before .before .before .before .before .before .before .before .before .before .args in puts-same (puts-then (c .before .before .before .before .before .before .write-byte2 .ensures) (c .before .before .write-decimal .ensures)) (int-key (s .words .now) (s .text .now) (s .n) (s .keyed) _ _ (not-false (s .keyed) (c .before .before .before .before .before .before .before .before .before .before .before .if1 .left)) (c .before .before .before .before .before .before .before .before .before .before .get-word .ensures) (c .before .before .before .before .before .before .before .before .if2 .taken) (c .before .before .before .before .before .before .before .before .before .get-word2 .ensures))
+
+get-word-requires-3 : tie.Need-get-word-requires-3
+get-word-requires-3 c κs = omega arith
+
+write-byte-requires-3 : tie.Need-write-byte-requires-3
+write-byte-requires-3 c κs = tt
+
+text-part-requires : tie.Need-text-part-requires
+text-part-requires c κs = tt
+
+write-hex-requires : tie.Need-write-hex-requires
+write-hex-requires c κs = tt
+
+same-length-3 : tie.Need-same-length-3
+same-length-3 c = omega arith
+
+returns-3 : tie.Need-returns-3
+returns-3 c = let s = c .before .before .before .before .before .before .before .before .before .before .before .before .before .before .before .before .before .args in puts-same (puts-then (c .before .before .before .before .before .before .before .write-byte3 .ensures) (c .before .before .write-hex .ensures)) (string-key (s .words .now) (s .text .now) (s .n) (s .keyed) _ _ _ _ (not-false (s .keyed) (c .before .before .before .before .before .before .before .before .before .before .before .before .before .if1 .left)) (c .before .before .before .before .before .before .before .before .before .before .before .before .get-word .ensures) (c .before .before .before .before .before .before .before .before .before .before .if2 .left) (c .before .before .before .before .before .before .before .before .before .before .before .get-word2 .ensures) (c .before .before .before .before .before .before .before .before .before .get-word3 .ensures) (c .before .before .before .before .text-part .ensures))
+
+pub write-key-spec : {M : Type 1} → statement M
+write-key-spec =
+    tie.close
+    (tie.spec
+    write-byte-requires
+    same-length
+    returns
+    get-word-requires
+    get-word-requires-2
+    write-byte-requires-2
+    cast-write-decimal
+    write-decimal-requires
+    same-length-2
+    returns-2
+    get-word-requires-3
+    write-byte-requires-3
+    text-part-requires
+    write-hex-requires
+    same-length-3
+    returns-3)

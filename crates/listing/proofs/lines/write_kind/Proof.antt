@@ -1,0 +1,106 @@
+use mathlib.Core.Path.{refl}
+use Rattle.listing.proofs.Pages.{puts-same}
+use Rattle.listing.proofs.ByKind.{name-is, name-of-other}
+use Rattle.listing.proofs.lines.write_kind.Statement.{statement}
+use Rattle.listing.proofs.lines.write_kind.Tie as tie
+
+slice-aggregate-write-bytes : tie.Need-slice-aggregate-write-bytes
+slice-aggregate-write-bytes c = refl
+
+write-bytes-requires : tie.Need-write-bytes-requires
+write-bytes-requires c κs = tt
+
+same-length : tie.Need-same-length
+same-length c = c .before .before .write-bytes .kept .1 .0
+
+returns : tie.Need-returns
+returns c = puts-same (c .before .before .write-bytes .ensures) (name-is (c .before .before .before .before .before .if1 .taken))
+
+slice-aggregate-write-bytes-2 : tie.Need-slice-aggregate-write-bytes-2
+slice-aggregate-write-bytes-2 c = refl
+
+write-bytes-requires-2 : tie.Need-write-bytes-requires-2
+write-bytes-requires-2 c κs = tt
+
+same-length-2 : tie.Need-same-length-2
+same-length-2 c = c .before .before .write-bytes2 .kept .1 .0
+
+returns-2 : tie.Need-returns-2
+returns-2 c = puts-same (c .before .before .write-bytes2 .ensures) (name-is (c .before .before .before .before .before .if2 .taken))
+
+slice-aggregate-write-bytes-3 : tie.Need-slice-aggregate-write-bytes-3
+slice-aggregate-write-bytes-3 c = refl
+
+write-bytes-requires-3 : tie.Need-write-bytes-requires-3
+write-bytes-requires-3 c κs = tt
+
+same-length-3 : tie.Need-same-length-3
+same-length-3 c = c .before .before .write-bytes3 .kept .1 .0
+
+returns-3 : tie.Need-returns-3
+returns-3 c = puts-same (c .before .before .write-bytes3 .ensures) (name-is (c .before .before .before .before .before .if3 .taken))
+
+slice-aggregate-write-bytes-4 : tie.Need-slice-aggregate-write-bytes-4
+slice-aggregate-write-bytes-4 c = refl
+
+write-bytes-requires-4 : tie.Need-write-bytes-requires-4
+write-bytes-requires-4 c κs = tt
+
+same-length-4 : tie.Need-same-length-4
+same-length-4 c = c .before .before .write-bytes4 .kept .1 .0
+
+returns-4 : tie.Need-returns-4
+returns-4 c = puts-same (c .before .before .write-bytes4 .ensures) (name-is (c .before .before .before .before .before .if4 .taken))
+
+slice-aggregate-write-bytes-5 : tie.Need-slice-aggregate-write-bytes-5
+slice-aggregate-write-bytes-5 c = refl
+
+write-bytes-requires-5 : tie.Need-write-bytes-requires-5
+write-bytes-requires-5 c κs = tt
+
+same-length-5 : tie.Need-same-length-5
+same-length-5 c = c .before .before .write-bytes5 .kept .1 .0
+
+returns-5 : tie.Need-returns-5
+returns-5 c = puts-same (c .before .before .write-bytes5 .ensures) (name-is (c .before .before .before .before .before .if5 .taken))
+
+slice-aggregate-write-bytes-6 : tie.Need-slice-aggregate-write-bytes-6
+slice-aggregate-write-bytes-6 c = refl
+
+write-bytes-requires-6 : tie.Need-write-bytes-requires-6
+write-bytes-requires-6 c κs = tt
+
+same-length-6 : tie.Need-same-length-6
+same-length-6 c = c .before .before .write-bytes6 .kept .1 .0
+
+returns-6 : tie.Need-returns-6
+returns-6 c = puts-same (c .before .before .write-bytes6 .ensures) (name-of-other _ (c .before .before .before .before .before .before .before .before .before .if1 .left) (c .before .before .before .before .before .before .before .before .if2 .left) (c .before .before .before .before .before .before .before .if3 .left) (c .before .before .before .before .before .before .if4 .left) (c .before .before .before .before .before .if5 .left))
+
+pub write-kind-spec : {M : Type 1} → statement M
+write-kind-spec =
+    tie.close
+    (tie.spec
+    slice-aggregate-write-bytes
+    write-bytes-requires
+    same-length
+    returns
+    slice-aggregate-write-bytes-2
+    write-bytes-requires-2
+    same-length-2
+    returns-2
+    slice-aggregate-write-bytes-3
+    write-bytes-requires-3
+    same-length-3
+    returns-3
+    slice-aggregate-write-bytes-4
+    write-bytes-requires-4
+    same-length-4
+    returns-4
+    slice-aggregate-write-bytes-5
+    write-bytes-requires-5
+    same-length-5
+    returns-5
+    slice-aggregate-write-bytes-6
+    write-bytes-requires-6
+    same-length-6
+    returns-6)

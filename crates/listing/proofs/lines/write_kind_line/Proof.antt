@@ -1,0 +1,39 @@
+use native.Mathlib.Omega.{arith}
+use Rattle.listing.proofs.ByKind.{name-is}
+use mathlib.Core.Path.{refl, sym}
+use Rattle.listing.proofs.Pages.{puts-then, puts-same}
+use Rattle.listing.proofs.lines.write_kind_line.Statement.{statement}
+use Rattle.listing.proofs.lines.write_kind_line.Tie as tie
+
+slice-aggregate-write-bytes : tie.Need-slice-aggregate-write-bytes
+slice-aggregate-write-bytes c = refl
+
+write-bytes-requires : tie.Need-write-bytes-requires
+write-bytes-requires c κs = tt
+
+get-word-requires : tie.Need-get-word-requires
+get-word-requires c κs = omega arith
+
+write-kind-requires : tie.Need-write-kind-requires
+write-kind-requires c κs = tt
+
+write-byte-requires : tie.Need-write-byte-requires
+write-byte-requires c κs = tt
+
+same-length : tie.Need-same-length
+same-length c = omega arith
+
+returns : tie.Need-returns
+returns c = puts-then (puts-then (c .before .before .before .before .before .before .before .before .before .before .before .write-bytes .ensures) (puts-same (c .before .before .before .before .before .before .write-kind .ensures) (sym (name-is (c .before .before .before .before .before .before .before .before .get-word .ensures))))) (c .before .before .write-byte .ensures)
+
+pub write-kind-line-spec : {M : Type 1} → statement M
+write-kind-line-spec =
+    tie.close
+    (tie.spec
+    slice-aggregate-write-bytes
+    write-bytes-requires
+    get-word-requires
+    write-kind-requires
+    write-byte-requires
+    same-length
+    returns)

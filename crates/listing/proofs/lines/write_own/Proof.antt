@@ -1,0 +1,42 @@
+use native.Mathlib.Omega.{arith}
+use mathlib.Core.Path.{refl, ap}
+use Rattle.reading.specs.Buffers.{word}
+use Rattle.listing.specs.Lines.{line, ownLines}
+use Rattle.listing.proofs.ByKind.{name-of-kind}
+use Rattle.listing.proofs.Pages.{puts-then, puts-same}
+use Rattle.listing.proofs.lines.write_own.Statement.{statement}
+use Rattle.listing.proofs.lines.write_own.Tie as tie
+
+slice-aggregate-write-number : tie.Need-slice-aggregate-write-number
+slice-aggregate-write-number c = refl
+
+write-number-requires : tie.Need-write-number-requires
+write-number-requires c κs = tt
+
+write-key-line-requires : tie.Need-write-key-line-requires
+write-key-line-requires c κs = tt
+
+write-kind-line-requires : tie.Need-write-kind-line-requires
+write-kind-line-requires c κs = tt
+
+write-text-line-requires : tie.Need-write-text-line-requires
+write-text-line-requires c κs = tt
+
+same-length : tie.Need-same-length
+same-length c = omega arith
+
+returns : tie.Need-returns
+unfolding ownLines
+returns c = puts-then (puts-then (puts-then (c .before .before .before .before .before .before .before .before .before .before .before .before .before .before .write-number .ensures) (c .before .before .before .before .before .before .before .before .before .before .write-key-line .ensures)) (puts-same (c .before .before .before .before .before .before .write-kind-line .ensures) (ap (line "kind=") (name-of-kind (word (c .before .before .before .before .before .before .before .before .before .before .before .before .before .before .before .before .before .before .before .before .args .words .now) (c .before .before .before .before .before .before .before .before .before .before .before .before .before .before .before .before .before .before .before .before .args .n) 0) _ _)))) (c .before .before .write-text-line .ensures)
+
+pub write-own-spec : {M : Type 1} → statement M
+write-own-spec =
+    tie.close
+    (tie.spec
+    slice-aggregate-write-number
+    write-number-requires
+    write-key-line-requires
+    write-kind-line-requires
+    write-text-line-requires
+    same-length
+    returns)

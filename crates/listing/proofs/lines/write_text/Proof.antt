@@ -1,0 +1,53 @@
+use native.Mathlib.Omega.{arith}
+use Rattle.listing.proofs.Items.{string-text}
+use Rattle.reading.specs.Buffers.{word}
+use Rattle.listing.proofs.Pages.{puts-same}
+use Rattle.listing.proofs.ByKind.{text-of-other}
+use mathlib.Core.Path.{_∙_}
+use Rattle.listing.proofs.lines.write_text.Statement.{statement}
+use Rattle.listing.proofs.lines.write_text.Tie as tie
+
+get-word-requires : tie.Need-get-word-requires
+get-word-requires c κs = omega arith
+
+write-byte-requires : tie.Need-write-byte-requires
+write-byte-requires c κs = tt
+
+same-length : tie.Need-same-length
+same-length c = c .before .before .write-byte .kept .1 .0
+
+returns : tie.Need-returns
+returns c = let s = c .before .before .before .before .before .before .before .before .before .args in puts-same (c .before .before .write-byte .ensures) (text-of-other (word (s .words .now) (s .n) 0) _ (λ e. c .before .before .before .before .if1 .taken (c .before .before .before .before .before .get-word .ensures ∙ e)))
+
+get-word-requires-2 : tie.Need-get-word-requires-2
+get-word-requires-2 c κs = omega arith
+
+get-word-requires-3 : tie.Need-get-word-requires-3
+get-word-requires-3 c κs = omega arith
+
+text-part-requires : tie.Need-text-part-requires
+text-part-requires c κs = tt
+
+write-hex-requires : tie.Need-write-hex-requires
+write-hex-requires c κs = tt
+
+same-length-2 : tie.Need-same-length-2
+same-length-2 c = c .before .before .write-hex .kept .1 .0
+
+returns-2 : tie.Need-returns-2
+returns-2 c = let s = c .before .before .before .before .before .before .before .before .before .before .before .before .args in puts-same (c .before .before .write-hex .ensures) (string-text (s .words .now) (s .text .now) (s .n) _ _ _ _ (c .before .before .before .before .before .before .before .before .get-word .ensures) (c .before .before .before .before .before .before .before .if1 .left) (c .before .before .before .before .before .before .get-word2 .ensures) (c .before .before .before .before .before .get-word3 .ensures) (c .before .before .before .before .text-part .ensures))
+
+pub write-text-spec : {M : Type 1} → statement M
+write-text-spec =
+    tie.close
+    (tie.spec
+    get-word-requires
+    write-byte-requires
+    same-length
+    returns
+    get-word-requires-2
+    get-word-requires-3
+    text-part-requires
+    write-hex-requires
+    same-length-2
+    returns-2)

@@ -1,0 +1,24 @@
+use native.Mathlib.Omega.{arith}
+use Rattle.listing.proofs.Pages.{puts-then}
+use Rattle.listing.proofs.numbers.write_number.Statement.{statement}
+use Rattle.listing.proofs.numbers.write_number.Tie as tie
+
+write-bytes-requires : tie.Need-write-bytes-requires
+write-bytes-requires c κs = tt
+
+write-decimal-requires : tie.Need-write-decimal-requires
+write-decimal-requires c κs = tt
+
+write-byte-requires : tie.Need-write-byte-requires
+write-byte-requires c κs = tt
+
+same-length : tie.Need-same-length
+same-length c = omega arith
+
+returns : tie.Need-returns
+returns c = puts-then (puts-then (c .before .before .before .before .before .before .before .before .before .before .write-bytes .ensures) (c .before .before .before .before .before .before .write-decimal .ensures)) (c .before .before .write-byte .ensures)
+
+pub write-number-spec : {M : Type 1} → statement M
+write-number-spec =
+    tie.close
+    (tie.spec write-bytes-requires write-decimal-requires write-byte-requires same-length returns)

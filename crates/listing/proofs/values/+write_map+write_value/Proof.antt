@@ -1,0 +1,302 @@
+-- The measure of both writers is twice the count of records that are left, and one more for a map.
+use native.Mathlib.Omega.{arith}
+use Rattle.listing.specs.Walking.{firstOfSiblings}
+use Rattle.listing.proofs.Walks.{first-some, no-siblings, none-left, map-first, sequence-first, single-first}
+use Rattle.listing.proofs.Writes.{wrote-none, wrote-own, Going, going-start, going-turn, going-done}
+use Prim.Native.Nat.{ℕ, _+_, _*_, _<_}
+use borrow.Fn.Kinds.{In}
+use borrow.Fn.PlainCycle.{Measures, is, falls, and}
+use Rattle.listing.proofs.values.write_map.Reads as write-map
+use Rattle.listing.proofs.values.write_map.Kinds as write-map-kinds
+use Rattle.listing.proofs.values.+write_map+write_value.Lts-write_map as write-map-lts
+use Rattle.listing.proofs.values.write_value.Reads as write-value
+use Rattle.listing.proofs.values.write_value.Kinds as write-value-kinds
+use Rattle.listing.proofs.values.+write_map+write_value.Lts-write_value as write-value-lts
+use Rattle.listing.proofs.lines.write_own.Reads as write-own-reads
+use Rattle.listing.proofs.record.get_word.Reads as get-word-reads
+use Rattle.listing.proofs.values.+write_map+write_value.{statement}
+use Rattle.listing.proofs.values.+write_map+write_value.Tie.{close}
+
+abbrev μ-write-map : Measures 3 write-map-kinds.ps ℕ
+μ-write-map κs a = 2 * a .1 .1 .1 .1 .1 .1 .0 .left + 1
+
+abbrev μ-write-value : Measures 3 write-value-kinds.ps ℕ
+μ-write-value κs a = 2 * a .1 .1 .1 .1 .1 .1 .0 .left
+
+abbrev write-map-at : ℕ → In 3 write-map-kinds.ps
+write-map-at t = and 3 write-map-kinds.ps (is 3 write-map-kinds.ps μ-write-map t) write-map.Pre
+
+abbrev write-map-below : ℕ → In 3 write-map-kinds.ps
+write-map-below t =
+    and 3 write-map-kinds.ps (falls 3 write-map-kinds.ps _<_ μ-write-map t) write-map.Pre
+
+abbrev write-value-at : ℕ → In 3 write-value-kinds.ps
+write-value-at t =
+    and 3 write-value-kinds.ps (is 3 write-value-kinds.ps μ-write-value t) write-value.Pre
+
+abbrev write-value-below : ℕ → In 3 write-value-kinds.ps
+write-value-below t =
+    and 3 write-value-kinds.ps (falls 3 write-value-kinds.ps _<_ μ-write-value t) write-value.Pre
+
+abbrev write-map-Inv-loop : write-map-lts.InvT-loop
+write-map-Inv-loop words text first keyed level out₀ n₀ at₀ left₀ out n at left = Going (firstOfSiblings left words text n keyed level) (firstOfSiblings left₀ words text first keyed level) out₀ out at₀ at left₀ left
+
+abbrev write-map-μ-loop : write-map-lts.MeasureT-loop
+write-map-μ-loop words text first keyed level out₀ n₀ at₀ left₀ out n at left = left
+
+write-map-loop-holds : (t : ℕ) → write-map-lts.Need-loop-holds (
+  write-value-below t,
+  write-value.Post,
+  get-word-reads.Asked,
+  get-word-reads.Learnt,
+) (write-map-at t) write-map.Post write-map-Inv-loop write-map-μ-loop
+write-map-loop-holds t c = going-start _ _ _ _
+
+write-map-same-length : (t : ℕ) → write-map-lts.Need-same-length (
+  write-value-below t,
+  write-value.Post,
+  get-word-reads.Asked,
+  get-word-reads.Learnt,
+) (write-map-at t) write-map.Post write-map-Inv-loop write-map-μ-loop
+write-map-same-length t c = c .before .before .loop .inv .putting .long
+
+write-map-returns : (t : ℕ) → write-map-lts.Need-returns (
+  write-value-below t,
+  write-value.Post,
+  get-word-reads.Asked,
+  get-word-reads.Learnt,
+) (write-map-at t) write-map.Post write-map-Inv-loop write-map-μ-loop
+write-map-returns t c = going-done (c .before .before .loop .inv) (none-left (c .before .before .before .before .before .before .args .words .now) (c .before .before .before .before .before .before .args .text .now) _ _ _ _ (c .if1 .taken))
+
+write-map-write-value-requires : (t : ℕ) → write-map-lts.Need-write-value-requires (
+  write-value-below t,
+  write-value.Post,
+  get-word-reads.Asked,
+  get-word-reads.Learnt,
+) (write-map-at t) write-map.Post write-map-Inv-loop write-map-μ-loop
+write-map-write-value-requires t c κs = (omega (arith, c .before .before .before .before .before .before .before .pre .0, c .before .if1 .left, c .before .before .before .loop .inv .fewer), (omega (arith, c .before .if1 .left), omega (arith, c .before .before .before .before .before .before .before .pre .1, c .before .before .before .loop .inv .fewer)))
+
+write-map-get-word-requires : (t : ℕ) → write-map-lts.Need-get-word-requires (
+  write-value-below t,
+  write-value.Post,
+  get-word-reads.Asked,
+  get-word-reads.Learnt,
+) (write-map-at t) write-map.Post write-map-Inv-loop write-map-μ-loop
+write-map-get-word-requires t c κs = omega arith
+
+write-map-loop-less : (t : ℕ) → write-map-lts.Need-loop-less (
+  write-value-below t,
+  write-value.Post,
+  get-word-reads.Asked,
+  get-word-reads.Learnt,
+) (write-map-at t) write-map.Post write-map-Inv-loop write-map-μ-loop
+write-map-loop-less t c = let s = c .before .before .before .before .before .before .before .before .before .before .before .args in omega (arith, c .before .before .before .write-value .ensures .count, first-some (s .words .now) (s .text .now) (c .before .before .before .before .before .before .before .loop .left) (c .before .before .before .before .before .before .before .loop .n) (s .keyed) (s .level) (omega (arith, c .before .before .before .before .before .if1 .left)))
+
+write-map-loop-again : (t : ℕ) → write-map-lts.Need-loop-again (
+  write-value-below t,
+  write-value.Post,
+  get-word-reads.Asked,
+  get-word-reads.Learnt,
+) (write-map-at t) write-map.Post write-map-Inv-loop write-map-μ-loop
+write-map-loop-again t c = going-turn (c .before .before .before .before .before .before .before .before .before .before .before .args .words .now) (c .before .before .before .before .before .before .before .before .before .before .before .args .text .now) _ _ _ (c .before .before .before .before .before .before .before .loop .inv) (c .before .before .before .before .before .if1 .left) (c .before .before .before .before .before .before .loop-test .taken) (c .before .before .before .write-value .ensures) (c .before .before .before .write-value .kept .1 .1 .1 .1 .1 .0) (c .get-word .ensures)
+
+write-map-same-length-2 : (t : ℕ) → write-map-lts.Need-same-length-2 (
+  write-value-below t,
+  write-value.Post,
+  get-word-reads.Asked,
+  get-word-reads.Learnt,
+) (write-map-at t) write-map.Post write-map-Inv-loop write-map-μ-loop
+write-map-same-length-2 t c = c .before .loop .inv .putting .long
+
+write-map-returns-2 : (t : ℕ) → write-map-lts.Need-returns-2 (
+  write-value-below t,
+  write-value.Post,
+  get-word-reads.Asked,
+  get-word-reads.Learnt,
+) (write-map-at t) write-map.Post write-map-Inv-loop write-map-μ-loop
+write-map-returns-2 t c = going-done (c .before .loop .inv) (no-siblings (c .before .before .before .before .before .args .words .now) (c .before .before .before .before .before .args .text .now) _ _ _ _ (c .loop-test .left))
+
+write-value-write-own-requires : (t : ℕ) → write-value-lts.Need-write-own-requires (
+  write-own-reads.Asked,
+  write-own-reads.Learnt,
+  get-word-reads.Asked,
+  get-word-reads.Learnt,
+  write-map-below t,
+  write-map.Post,
+) (write-value-at t) write-value.Post
+write-value-write-own-requires t c κs = tt
+
+write-value-sub-left : (t : ℕ) → write-value-lts.Need-sub-left (
+  write-own-reads.Asked,
+  write-own-reads.Learnt,
+  get-word-reads.Asked,
+  get-word-reads.Learnt,
+  write-map-below t,
+  write-map.Post,
+) (write-value-at t) write-value.Post
+write-value-sub-left t c = omega arith
+
+write-value-get-word-requires : (t : ℕ) → write-value-lts.Need-get-word-requires (
+  write-own-reads.Asked,
+  write-own-reads.Learnt,
+  get-word-reads.Asked,
+  get-word-reads.Learnt,
+  write-map-below t,
+  write-map.Post,
+) (write-value-at t) write-value.Post
+write-value-get-word-requires t c κs = omega arith
+
+write-value-get-word-requires-2 : (t : ℕ) → write-value-lts.Need-get-word-requires-2 (
+  write-own-reads.Asked,
+  write-own-reads.Learnt,
+  get-word-reads.Asked,
+  get-word-reads.Learnt,
+  write-map-below t,
+  write-map.Post,
+) (write-value-at t) write-value.Post
+write-value-get-word-requires-2 t c κs = omega arith
+
+write-value-add-write-map : (t : ℕ) → write-value-lts.Need-add-write-map (
+  write-own-reads.Asked,
+  write-own-reads.Learnt,
+  get-word-reads.Asked,
+  get-word-reads.Learnt,
+  write-map-below t,
+  write-map.Post,
+) (write-value-at t) write-value.Post
+write-value-add-write-map t c = omega arith
+
+write-value-write-map-requires : (t : ℕ) → write-value-lts.Need-write-map-requires (
+  write-own-reads.Asked,
+  write-own-reads.Learnt,
+  get-word-reads.Asked,
+  get-word-reads.Learnt,
+  write-map-below t,
+  write-map.Post,
+) (write-value-at t) write-value.Post
+write-value-write-map-requires t c κs = (omega (arith, c .before .before .before .before .before .before .before .before .before .before .before .before .pre .0, c .before .before .before .before .before .before .before .before .before .before .before .before .pre .1 .0), omega (arith, c .before .before .before .before .before .before .before .before .before .before .before .before .pre .1 .0, c .before .before .before .before .before .before .before .before .before .before .before .before .pre .1 .1))
+
+write-value-same-length : (t : ℕ) → write-value-lts.Need-same-length (
+  write-own-reads.Asked,
+  write-own-reads.Learnt,
+  get-word-reads.Asked,
+  get-word-reads.Learnt,
+  write-map-below t,
+  write-map.Post,
+) (write-value-at t) write-value.Post
+write-value-same-length t c = omega arith
+
+write-value-returns : (t : ℕ) → write-value-lts.Need-returns (
+  write-own-reads.Asked,
+  write-own-reads.Learnt,
+  get-word-reads.Asked,
+  get-word-reads.Learnt,
+  write-map-below t,
+  write-map.Post,
+) (write-value-at t) write-value.Post
+write-value-returns t c = let s = c .before .before .before .before .before .before .before .before .before .before .before .before .before .before .before .args in wrote-own (map-first (s .words .now) (s .text .now) _ (s .n) _ _ (c .before .before .before .before .before .before .before .before .before .before .before .before .before .before .before .pre .1 .0) (c .before .before .before .before .before .before .get-word .ensures) (c .before .before .before .before .if1 .taken) (c .before .before .before .before .before .get-word2 .ensures)) (c .before .before .before .before .before .before .before .before .before .before .before .before .before .before .before .pre .1 .0) (c .before .before .before .before .before .before .before .before .before .before .write-own .ensures) (c .before .before .write-map .ensures)
+
+write-value-add-write-map-2 : (t : ℕ) → write-value-lts.Need-add-write-map-2 (
+  write-own-reads.Asked,
+  write-own-reads.Learnt,
+  get-word-reads.Asked,
+  get-word-reads.Learnt,
+  write-map-below t,
+  write-map.Post,
+) (write-value-at t) write-value.Post
+write-value-add-write-map-2 t c = omega arith
+
+write-value-write-map-requires-2 : (t : ℕ) → write-value-lts.Need-write-map-requires-2 (
+  write-own-reads.Asked,
+  write-own-reads.Learnt,
+  get-word-reads.Asked,
+  get-word-reads.Learnt,
+  write-map-below t,
+  write-map.Post,
+) (write-value-at t) write-value.Post
+write-value-write-map-requires-2 t c κs = (omega (arith, c .before .before .before .before .before .before .before .before .before .before .before .before .before .pre .0, c .before .before .before .before .before .before .before .before .before .before .before .before .before .pre .1 .0), omega (arith, c .before .before .before .before .before .before .before .before .before .before .before .before .before .pre .1 .0, c .before .before .before .before .before .before .before .before .before .before .before .before .before .pre .1 .1))
+
+write-value-same-length-2 : (t : ℕ) → write-value-lts.Need-same-length-2 (
+  write-own-reads.Asked,
+  write-own-reads.Learnt,
+  get-word-reads.Asked,
+  get-word-reads.Learnt,
+  write-map-below t,
+  write-map.Post,
+) (write-value-at t) write-value.Post
+write-value-same-length-2 t c = omega arith
+
+write-value-returns-2 : (t : ℕ) → write-value-lts.Need-returns-2 (
+  write-own-reads.Asked,
+  write-own-reads.Learnt,
+  get-word-reads.Asked,
+  get-word-reads.Learnt,
+  write-map-below t,
+  write-map.Post,
+) (write-value-at t) write-value.Post
+write-value-returns-2 t c = let s = c .before .before .before .before .before .before .before .before .before .before .before .before .before .before .before .before .args in wrote-own (sequence-first (s .words .now) (s .text .now) _ (s .n) _ _ (c .before .before .before .before .before .before .before .before .before .before .before .before .before .before .before .before .pre .1 .0) (c .before .before .before .before .before .before .before .get-word .ensures) (c .before .before .before .before .if2 .taken) (c .before .before .before .before .before .before .get-word2 .ensures)) (c .before .before .before .before .before .before .before .before .before .before .before .before .before .before .before .before .pre .1 .0) (c .before .before .before .before .before .before .before .before .before .before .before .write-own .ensures) (c .before .before .write-map2 .ensures)
+
+write-value-same-length-3 : (t : ℕ) → write-value-lts.Need-same-length-3 (
+  write-own-reads.Asked,
+  write-own-reads.Learnt,
+  get-word-reads.Asked,
+  get-word-reads.Learnt,
+  write-map-below t,
+  write-map.Post,
+) (write-value-at t) write-value.Post
+write-value-same-length-3 t c = omega arith
+
+write-value-returns-3 : (t : ℕ) → write-value-lts.Need-returns-3 (
+  write-own-reads.Asked,
+  write-own-reads.Learnt,
+  get-word-reads.Asked,
+  get-word-reads.Learnt,
+  write-map-below t,
+  write-map.Post,
+) (write-value-at t) write-value.Post
+write-value-returns-3 t c = let s = c .before .before .before .before .before .before .before .before .before .before .before .before .args in wrote-own (single-first (s .words .now) (s .text .now) _ (s .n) _ _ (c .before .before .before .before .before .before .before .before .before .before .before .before .pre .1 .0) (c .before .before .before .get-word .ensures) (c .before .if1 .left) (c .if2 .left)) (c .before .before .before .before .before .before .before .before .before .before .before .before .pre .1 .0) (c .before .before .before .before .before .before .before .write-own .ensures) (wrote-none _ _)
+
+pub +write-map+write-value-spec : {M : Type 1} → statement M
++write-map+write-value-spec = close μ-write-map μ-write-value (λ t. write-map-lts.spec (
+  write-value-below t,
+  write-value.Post,
+  get-word-reads.Asked,
+  get-word-reads.Learnt,
+)
+    (write-map-at t)
+    write-map.Post
+    write-map-Inv-loop
+    write-map-μ-loop
+    (write-map-loop-holds t)
+    (write-map-same-length t)
+    (write-map-returns t)
+    (write-map-write-value-requires t)
+    (write-map-get-word-requires t)
+    (write-map-loop-less t)
+    (write-map-loop-again t)
+    (write-map-same-length-2 t)
+    (write-map-returns-2 t))
+    λ t. write-value-lts.spec (
+      write-own-reads.Asked,
+      write-own-reads.Learnt,
+      get-word-reads.Asked,
+      get-word-reads.Learnt,
+      write-map-below t,
+      write-map.Post,
+    )
+    (write-value-at t)
+    write-value.Post
+    (write-value-write-own-requires t)
+    (write-value-sub-left t)
+    (write-value-get-word-requires t)
+    (write-value-get-word-requires-2 t)
+    (write-value-add-write-map t)
+    (write-value-write-map-requires t)
+    (write-value-same-length t)
+    (write-value-returns t)
+    (write-value-add-write-map-2 t)
+    (write-value-write-map-requires-2 t)
+    (write-value-same-length-2 t)
+    (write-value-returns-2 t)
+    (write-value-same-length-3 t)
+    (write-value-returns-3 t)

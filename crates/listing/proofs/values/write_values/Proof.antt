@@ -1,0 +1,27 @@
+use native.Mathlib.Omega.{arith}
+use mathlib.Core.Path.{sym, ap}
+use mathlib.Core.List.{flatten}
+use borrow.Author.Tests.{eq-eqb, ne-eqb}
+use Rattle.listing.proofs.Pages.{puts-nothing, puts-same}
+use Rattle.listing.proofs.Walks.{root-first, no-records}
+use Rattle.listing.proofs.values.write_values.Statement.{statement}
+use Rattle.listing.proofs.values.write_values.Tie as tie
+
+returns : tie.Need-returns
+returns c = puts-same (puts-nothing _) (rw (ne-eqb _ _ (c .if1 .taken)))
+
+returns-2 : tie.Need-returns-2
+returns-2 c = let s = c .before .before .before .before .before .args in puts-same (puts-nothing _) (rw (eq-eqb _ _ (c .before .if1 .left)) (no-records (s .words .now) (s .text .now) (c .if2 .taken)))
+
+write-value-requires : tie.Need-write-value-requires
+write-value-requires c κs = omega arith
+
+same-length : tie.Need-same-length
+same-length c = omega arith
+
+returns-3 : tie.Need-returns-3
+returns-3 c = puts-same (c .before .before .write-value .ensures .lines) (rw (eq-eqb _ _ (c .before .before .before .before .before .if1 .left)) (ap flatten (sym (root-first (c .before .before .before .before .before .before .before .before .before .args .words .now) (c .before .before .before .before .before .before .before .before .before .args .text .now)))))
+
+pub write-values-spec : {M : Type 1} → statement M
+write-values-spec =
+    tie.close (tie.spec returns returns-2 write-value-requires same-length returns-3)

@@ -1,0 +1,71 @@
+-- Worked examples, decided together in proofs/Examples: an input read at the default settings, and the lines of its listing.
+use Prim.Native.Nat.{ℕ}
+use Prim.Native.String.{String}
+use mathlib.Core.Path.{_≡_}
+use mathlib.Core.Bool.{true, false}
+use mathlib.Core.List.{List, [], _∷_, _++_, map, flatMap}
+use Rattle.config.specs.Defaults.{defaults}
+use Rattle.reading.specs.Tests.{ascii, before}
+use Rattle.reading.specs.Reading.{reading}
+use Rattle.listing.specs.declared.head.Head.{Head}
+use Rattle.listing.specs.declared.head.Head.the-variants.{Bad, Good}
+use Rattle.listing.specs.Heads.{headOf}
+use Rattle.listing.specs.Listing.{listing}
+
+pub record Example : Type 0 where
+  pub input : String
+  pub lines : List String
+
+abbrev pub lists : String → List String → Example
+lists input lines = record { input = input; lines = lines }
+
+abbrev pub examples : List Example
+examples =
+    -- document 01's example, whole
+    lists "a=1" ("answer=0" ∷ "place=0" ∷ "nodes=2" ∷ "bytes=2" ∷ "level=0" ∷ "key=-" ∷ "kind=map" ∷ "text=-" ∷ "level=1" ∷ "key=s61" ∷ "kind=string" ∷ "text=31" ∷ []) ∷
+    -- a refusal
+    lists "a[b]=1&a[]=2" ("answer=6" ∷ "place=10" ∷ "nodes=0" ∷ "bytes=0" ∷ []) ∷
+    -- an Uninitialized root, and a NoValue root
+    lists "&&" ("answer=0" ∷ "place=0" ∷ "nodes=1" ∷ "bytes=0" ∷ "level=0" ∷ "key=-" ∷ "kind=uninit" ∷ "text=-" ∷ []) ∷
+    lists "" ("answer=0" ∷ "place=0" ∷ "nodes=1" ∷ "bytes=0" ∷ "level=0" ∷ "key=-" ∷ "kind=novalue" ∷ "text=-" ∷ []) ∷
+    -- an Int key, and a Sequence
+    lists "007=x&7" (
+    "answer=0" ∷ "place=0" ∷ "nodes=4" ∷ "bytes=1" ∷ "level=0" ∷ "key=-" ∷ "kind=map" ∷ "text=-" ∷ "level=1" ∷ "key=i7" ∷ "kind=sequence" ∷ "text=-" ∷
+    "level=2" ∷ "key=-" ∷ "kind=string" ∷ "text=78" ∷ "level=2" ∷ "key=-" ∷ "kind=novalue" ∷ "text=-" ∷ []) ∷
+    -- the empty key, a Null, and a value after its sibling's children
+    lists "a[b]=%2F&a=&c=Z" (
+    "answer=0" ∷ "place=0" ∷ "nodes=5" ∷ "bytes=5" ∷ "level=0" ∷ "key=-" ∷ "kind=map" ∷ "text=-" ∷ "level=1" ∷ "key=s61" ∷ "kind=map" ∷ "text=-" ∷
+    "level=2" ∷ "key=s" ∷ "kind=null" ∷ "text=-" ∷ "level=2" ∷ "key=s62" ∷ "kind=string" ∷ "text=2f" ∷
+    "level=1" ∷ "key=s63" ∷ "kind=string" ∷ "text=5a" ∷ []) ∷
+    []
+
+-- Lines with their newlines.
+abbrev pub ended : List String → List ℕ
+ended lines = flatMap (λ l. ascii l ++ ascii "\n") lines
+
+-- Every example has its lines, where 6 records and 12 bytes of text are lent.
+abbrev pub ExamplesPass : Type 0
+ExamplesPass =
+    map (λ e. listing (reading defaults (ascii (e .input)) (before 48) (before 12))) examples ≡ map (λ e. ended (e .lines)) examples
+
+-- The program's inputs and their heads. What follows a head is the query string, a trailing newline too.
+abbrev pub heads : List (String × Head)
+heads =
+    ("depth=5\nform=0\na=1\n", Good 5 false 15) ∷
+    ("depth=0\nform=1\n", Good 0 true 15) ∷
+    ("depth=64\nform=0\n\n", Good 64 false 16) ∷
+    ("depth=999\nform=0\n", Good 999 false 17) ∷
+    ("depth=1000\nform=0\n", Bad) ∷
+    ("depth=00\nform=0\n", Bad) ∷
+    ("depth=05\nform=0\n", Bad) ∷
+    ("depth=\nform=0\n", Bad) ∷
+    ("depth=5\r\nform=0\r\n", Bad) ∷
+    ("depth=5\nform=2\n", Bad) ∷
+    ("depth=5\nform=0", Bad) ∷
+    ("depth=5 \nform=0\n", Bad) ∷
+    ("Depth=5\nform=0\n", Bad) ∷
+    ("", Bad) ∷
+    []
+
+abbrev pub HeadsPass : Type 0
+HeadsPass = map (λ e. headOf (ascii (e .0))) heads ≡ map (λ e. e .1) heads

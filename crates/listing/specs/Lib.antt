@@ -1,0 +1,10 @@
+pub mod Numbers
+pub mod Lines
+pub mod Listing
+pub mod Bounded
+pub mod Complete
+pub mod Room
+pub mod Output
+pub mod Walking
+pub mod Heads
+pub mod Examples

@@ -1,0 +1,25 @@
+-- Document 01, 'The listing program': the listing of an outcome, whole.
+use Prim.Native.Nat.{ℕ}
+use mathlib.Core.Bool.{cond}
+use mathlib.Core.Option.{none}
+use mathlib.Core.List.{List, [], _++_, flatten}
+use lib.Dec.{eqb}
+use Rattle.reading.specs.Reading.{Outcome}
+use Rattle.reading.specs.Buffers.{treeIn}
+use Rattle.listing.specs.Numbers.{decimal}
+use Rattle.listing.specs.Lines.{line, treeLines}
+
+-- "First number, place, records, text bytes."
+unfoldable pub answerLines : ℕ → ℕ → ℕ → ℕ → List ℕ
+answerLines number place records bytes =
+    line "answer=" (decimal number) ++ line "place=" (decimal place) ++ line "nodes=" (decimal records) ++ line "bytes=" (decimal bytes)
+
+-- The lines of each value of the tree that words and text hold, from the root on, which has level 0 and no key.
+abbrev pub valueLines : List ℕ → List ℕ → List (List ℕ)
+valueLines words text = treeLines (treeIn words text) 0 none
+
+-- "A refusal prints the first four only."
+unfoldable pub listing : Outcome → List ℕ
+listing o =
+    let values = flatten (valueLines (o .words) (o .text)) in
+    answerLines (o .number) (o .place) (o .records) (o .bytes) ++ cond (eqb (o .number) 0) values []

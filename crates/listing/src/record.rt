@@ -1,0 +1,64 @@
+// What a record says, where words and text may be any: a word or a text past the end is 0 or empty.
+ghost use mathlib.Core.Path.{_≡_};
+ghost use Prim.Native.Nat.{_<_};
+ghost use Rattle.config.specs.Limits.{recordWidth};
+ghost use Rattle.reading.specs.Buffers.{word, textPart};
+
+// A record's width in words, and its words by their numbers.
+pub const WIDTH: usize = 8;
+
+pub const KIND: usize = 0;
+
+pub const KEY_KIND: usize = 1;
+
+pub const KEY: usize = 2;
+
+pub const KEY_LEN: usize = 3;
+
+pub const TEXT: usize = 4;
+
+pub const TEXT_LEN: usize = 5;
+
+pub const CHILD: usize = 6;
+
+pub const NEXT: usize = 7;
+
+// The kinds of a value but Uninitialized, and the key kind of an Int.
+pub const MAP: u32 = 1;
+
+pub const SEQUENCE: u32 = 2;
+
+pub const STRING: u32 = 3;
+
+pub const NULL: u32 = 4;
+
+pub const NO_VALUE: u32 = 5;
+
+pub const INT_KEY: u32 = 1;
+
+// Word w of record n, or 0 past the words' end.
+pub(crate) fn get_word(words: &[u32], n: u32, w: usize) -> u32
+    requires { ⌜ w < recordWidth ⌝ }
+    ensures { λ r. ⌜ r ≡ word (now (words .entry)) n w ⌝ }
+{
+    let i = n as usize * WIDTH + w;
+    if i < words.len() {
+        return words[i];
+    }
+    0
+}
+
+// The text at an offset, as much of its length as there is.
+pub(crate) fn text_part<'a>(text: &'a [u8], offset: u32, len: u32) -> &'a [u8]
+    ensures { λ r. ⌜ now r ≡ textPart (now (text .entry)) offset len ⌝ }
+{
+    let start = offset as usize;
+    let n = len as usize;
+    if text.len() <= start {
+        return &text[0..0];
+    }
+    if text.len() - start <= n {
+        return &text[start..];
+    }
+    &text[start..start + n]
+}

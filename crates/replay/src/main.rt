@@ -1,0 +1,108 @@
+// Replays stored answers: standard input holds readings with all that they have to answer and to leave (FORMAT.md); each is made by `parse` and
+// compared. Prints a line for each case that differs, and at the end how many cases there are and how many differ.
+// Below it stands the reader (parse).
+mod compare; // what a reading answers and leaves, against what is stored
+mod stored; // the stored cases
+
+use config::Config;
+use libc::STDIN_FILENO;
+use libc::STDOUT_FILENO;
+use parse::Parsed;
+use stored::Case;
+
+// Makes the reading of a case, in slices as long as it lends, and tells whether it answers and leaves what is stored. `left` holds the words and
+// the text that it has to leave.
+fn agrees(case: Case, query: &[u8], left: &[u8], words: &mut [u32], text: &mut [u8]) -> bool {
+    compare::fill_words(words);
+    compare::fill_text(text);
+    let config = Config {
+        depth: case.depth as usize,
+        form: case.form == 1,
+    };
+    let answered = match parse::parse(query, config, words, text) {
+        Parsed::Accepted(records, bytes) => compare::accepts(case, records, bytes),
+        Parsed::Refused(number, place) => compare::refuses(case, number, place),
+    };
+    if !answered {
+        return false;
+    }
+    compare::leaves(case, left, words, text)
+}
+
+// Hands a case the part of each slice that is its own, and makes its reading. False where a slice is too short.
+fn replay_in(case: Case, query: &[u8], left: &[u8], words: &mut [u32], text: &mut [u8]) -> bool {
+    let len = case.len as usize;
+    let word_count = case.words as usize;
+    let text_count = case.text as usize;
+    if query.len() < len {
+        return false;
+    }
+    if words.len() < word_count {
+        return false;
+    }
+    if text.len() < text_count {
+        return false;
+    }
+    agrees(
+        case,
+        &query[0..len],
+        left,
+        &mut words[0..word_count],
+        &mut text[0..text_count],
+    )
+}
+
+// Reads the next case and makes its reading. False where it differs, or where the input doesn't hold it whole.
+fn replay_case(query: &mut [u8], left: &mut [u8], words: &mut [u32], text: &mut [u8]) -> bool {
+    let mut head = [0u8; 36];
+    let got = io::read_full(STDIN_FILENO, &mut head);
+    if got < 36 {
+        return false;
+    }
+    let case = stored::case_of(&head);
+    if !stored::read(query, case.len as usize) {
+        return false;
+    }
+    if !stored::read(left, stored::left_len(case)) {
+        return false;
+    }
+    replay_in(case, query, left, words, text)
+}
+
+// Writes a text, a number and a text.
+fn print(before: &[u8], n: u32, after: &[u8]) {
+    io::write_all(STDOUT_FILENO, before);
+    io::print_decimal(STDOUT_FILENO, n as u64);
+    io::write_all(STDOUT_FILENO, after);
+}
+
+// Replays so many cases, numbered from 1, and answers how many differ. Prints a line for each of these.
+fn replay(
+    count: u32,
+    query: &mut [u8],
+    left: &mut [u8],
+    words: &mut [u32],
+    text: &mut [u8],
+) -> u32 {
+    let mut done = 0u32;
+    let mut differ = 0u32;
+    while done < count {
+        done += 1;
+        if !replay_case(query, left, words, text) {
+            differ += 1;
+            print(b"case ", done, b" differs\n");
+        }
+    }
+    differ
+}
+
+fn main() {
+    let mut query = [0u8; 65536];
+    let mut left = [0u8; 129535];
+    let mut words = [0u32; 16000];
+    let mut text = [0u8; 65535];
+    let count = stored::read_count();
+    let differ = replay(count, &mut query, &mut left, &mut words, &mut text);
+    print(b"", count, b" cases, ");
+    print(b"", differ, b" differ\n");
+}
