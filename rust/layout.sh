@@ -1,5 +1,6 @@
 #!/usr/bin/env bash
-# Runs the layout program: rust/layout.sh SEGMENT. It proves and builds the library and the program first where their sources are newer.
+# Runs the layout program: rust/layout.sh TICKET [NAME...], or rust/layout.sh --segment SEGMENT.
+# It proves and builds the library and the program first where their sources are newer.
 # It needs rt and rustc, and no crate but ours.
 set -eu
 cd "$(dirname "$(readlink -f "${BASH_SOURCE[0]}")")/.."

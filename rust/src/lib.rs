@@ -6,7 +6,7 @@
 
 /// The library's exports as C sees them: a slice is a pointer and then a count of elements.
 mod c {
-    use super::Reading;
+    use super::{FieldRead, Reading};
 
     extern "C" {
         pub fn qs_decode(raw: *const u8, raw_len: usize, out: *mut u8, out_len: usize) -> i64;
@@ -21,6 +21,34 @@ mod c {
             text: *mut u8,
             text_len: usize,
         ) -> Reading;
+        pub fn qs_text(
+            depth: u32,
+            form: u32,
+            duplicates: u32,
+            input: *const u8,
+            input_len: usize,
+            name: *const u8,
+            name_len: usize,
+            records: *mut u32,
+            records_len: usize,
+            text: *mut u8,
+            text_len: usize,
+        ) -> FieldRead;
+        pub fn qs_list(
+            depth: u32,
+            form: u32,
+            duplicates: u32,
+            input: *const u8,
+            input_len: usize,
+            name: *const u8,
+            name_len: usize,
+            records: *mut u32,
+            records_len: usize,
+            text: *mut u8,
+            text_len: usize,
+            list: *mut u32,
+            list_len: usize,
+        ) -> FieldRead;
     }
 }
 
@@ -115,6 +143,125 @@ pub fn parse(config: Config, input: &[u8], records: &mut [u32], text: &mut [u8])
             records.len(),
             text.as_mut_ptr(),
             text.len(),
+        )
+    }
+}
+
+/// What a field read does where several values were given for one text.
+#[derive(Clone, Copy, Debug, Default, PartialEq, Eq)]
+pub enum DuplicateKeyBehavior {
+    /// The last one counts.
+    #[default]
+    TakeLast,
+    /// The read is refused (19).
+    Error,
+}
+
+impl DuplicateKeyBehavior {
+    /// The flag that C gets.
+    fn flag(self) -> u32 {
+        match self {
+            DuplicateKeyBehavior::TakeLast => 0,
+            DuplicateKeyBehavior::Error => 1,
+        }
+    }
+}
+
+/// What a field read answers: first the answer of the reading, as in [`Reading`], then the field.
+#[repr(C)]
+#[derive(Clone, Copy, Debug, PartialEq, Eq)]
+pub struct FieldRead {
+    /// 0 where the field was read; 1 to 15 where the reading was refused, 16 to 22 where the field was.
+    pub number: u32,
+    pub place: u32,
+    pub records: u32,
+    pub bytes: u32,
+    /// Where the field's bytes start in the text; 0 for a list.
+    pub offset: u32,
+    /// The number of the field's bytes, or of a list's elements.
+    pub length: u32,
+}
+
+/// Reads a query string as [`parse`] does, and then the text of the root's field `name`. It leaves records and text as `parse` does.
+///
+/// A name is a `String` key only: the `1` of `1=x` is an `Int` and has no name. A field without a value has the empty text.
+///
+/// ```
+/// use qs::{Config, DuplicateKeyBehavior::{Error, TakeLast}};
+/// let (mut records, mut text) = ([0; 64], [0; 16]);
+/// let read = qs::text(Config::default(), TakeLast, b"w=fog&w=d%C3%A9j", b"w", &mut records, &mut text);
+/// assert_eq!((read.number, read.records, read.bytes), (0, 4, 8));
+/// assert_eq!(&text[read.offset as usize..][..read.length as usize], "déj".as_bytes());
+/// let read = qs::text(Config::default(), Error, b"w=fog&w=dew", b"w", &mut records, &mut text);
+/// assert_eq!(read.number, 19);
+/// let read = qs::text(Config::default(), TakeLast, b"1=x", b"1", &mut records, &mut text);
+/// assert_eq!(read.number, 17);
+/// ```
+pub fn text(
+    config: Config,
+    duplicates: DuplicateKeyBehavior,
+    input: &[u8],
+    name: &[u8],
+    records: &mut [u32],
+    text: &mut [u8],
+) -> FieldRead {
+    // SAFETY: the slices live through the call, and `records` and `text` are lent to it alone.
+    unsafe {
+        c::qs_text(
+            config.depth,
+            config.form.into(),
+            duplicates.flag(),
+            input.as_ptr(),
+            input.len(),
+            name.as_ptr(),
+            name.len(),
+            records.as_mut_ptr(),
+            records.len(),
+            text.as_mut_ptr(),
+            text.len(),
+        )
+    }
+}
+
+/// Reads a query string as [`parse`] does, and then the root's field `name` as a list of texts.
+///
+/// Two words of `list` for each element get its offset and length in the text, and the rest is zero. Refusals 1 to 3 leave it as it
+/// was, and every later one zeroes it.
+///
+/// ```
+/// use qs::{Config, DuplicateKeyBehavior::TakeLast};
+/// let (mut records, mut text, mut list) = ([0; 64], [0; 16], [7; 6]);
+/// let read = qs::list(Config::default(), TakeLast, b"h[]=10&h[]=9", b"h", &mut records, &mut text, &mut list);
+/// assert_eq!((read.number, read.length), (0, 2));
+/// assert_eq!((list, &text[..4]), ([1, 2, 3, 1, 0, 0], &b"h109"[..]));
+/// let read = qs::list(Config::default(), TakeLast, b"h[]=10&h[]=9", b"h", &mut records, &mut text, &mut list[..3]);
+/// assert_eq!((read.number, read.length), (22, 0));
+/// ```
+pub fn list(
+    config: Config,
+    duplicates: DuplicateKeyBehavior,
+    input: &[u8],
+    name: &[u8],
+    records: &mut [u32],
+    text: &mut [u8],
+    list: &mut [u32],
+) -> FieldRead {
+    // SAFETY: the slices live through the call, and `records`, `text` and `list` are lent to it alone.
+    unsafe {
+        c::qs_list(
+            config.depth,
+            config.form.into(),
+            duplicates.flag(),
+            input.as_ptr(),
+            input.len(),
+            name.as_ptr(),
+            name.len(),
+            records.as_mut_ptr(),
+            records.len(),
+            text.as_mut_ptr(),
+            text.len(),
+            list.as_mut_ptr(),
+            list.len(),
         )
     }
 }

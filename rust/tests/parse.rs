@@ -4,21 +4,13 @@
 mod common;
 
 use common::inputs::{long_query, query, BYTES};
-use common::{every_string, reference_is_there, tree, Random};
+use common::{every_string, reference_is_there, times, tree, Random};
 use qs::{Config, Reading};
 
 const WIDTH: usize = model::WIDTH;
 
 /// What the buffers hold before a reading.
 const BEFORE: u8 = 7;
-
-/// How often a random comparison is made, where one in the gate makes `few`.
-fn times(few: usize) -> usize {
-    match std::env::var("COMPARE").as_deref() {
-        Ok("whole") => 20 * few,
-        _ => few,
-    }
-}
 
 /// A reading with so many words and bytes lent, and what it leaves.
 fn parse(config: Config, input: &[u8], words: usize, bytes: usize) -> model::Outcome {

@@ -1,5 +1,5 @@
 -- What is collected of a segment: from crate key's answer to the input's key, and from a scan to the value that is added.
-use mathlib.Core.Path.{_≡_, refl, sym, ap, _∙_}
+use mathlib.Core.Path.{_≡_, refl, ap}
 use mathlib.Core.List.{List, [], _∷_}
 use Prim.Native.Nat.{ℕ, _-_, _≤_, _<_}
 use native.Mathlib.Omega.{arith}
@@ -10,26 +10,20 @@ use Rattle.key.specs.Keys as keys
 use Rattle.key.specs.Keys.{keyOf}
 use Rattle.key.specs.Collected.{no-key, key, collected, keyIn}
 use Rattle.key.specs.declared.KeyKind.{KeyKind}
-use Rattle.reading.specs.Values.{Value}
 use Rattle.reading.specs.Leaves as leaves
 use Rattle.reading.specs.Leaves.{string, valueOf}
-use Rattle.reading.specs.Charging.{Lent}
-use Rattle.reading.specs.Scanning.{Target, rootKey, value, add}
 use Rattle.cursor.specs.declared.taking.Cursor.{Cursor}
 use Rattle.cursor.specs.declared.taking.Taken.{Taken}
 use Rattle.cursor.specs.declared.scanning.Until.the-variants.{Value as ValueScan}
 use Rattle.cursor.specs.declared.collecting.Key.{Key}
 use Rattle.cursor.specs.declared.collecting.Leaf.{Leaf}
 use Rattle.cursor.specs.declared.collecting.CollectedKey.the-variants.{None, Some}
-use Rattle.cursor.specs.declared.collecting.CollectedValue.{CollectedValue}
 use Rattle.cursor.specs.Segments.{segment}
 use Rattle.cursor.specs.Takings.{yielded}
 use Rattle.cursor.specs.Scans.{Scan, Scanned}
-use Rattle.cursor.specs.Collected.{Bounds, decodedLeaf, KeyIs, CollectedIs, ValueIs}
-use Rattle.cursor.specs.From.{from, after}
+use Rattle.cursor.specs.Collected.{Bounds, KeyIs, CollectedIs, ValueIs}
 use Rattle.cursor.proofs.Segments.{length-segment, segment-none}
-use Rattle.cursor.proofs.From.{from-ends}
-use Rattle.cursor.proofs.Scans.{scan-bounds, scan-value}
+use Rattle.cursor.proofs.Scans.{scan-bounds}
 
 -- No key: the segment is empty.
 collects-none : (config : Config) (x : List ℕ) → no-key ≡ collected config x → x ≡ []
@@ -86,11 +80,3 @@ module _ {config : Config} {s : List ℕ} {cursor : Cursor} {taken : Taken} {pla
       string-of : (x : List ℕ) → length x ≡ taken .cursor .end - place → string (decoded x) ≡ valueOf x
       string-of [] h = absurd (q (omega (arith, scan-bounds scan .long)))
       string-of (c ∷ x) h = refl
-
--- After a `=`: the value is added, and a new pair starts.
-pub value-ends : {config : Config} {s : List ℕ} {place : ℕ} {found : CollectedValue} → ValueIs config s place found → (target : Target) (lent : Lent) (tree : Value) (used : ℕ) (text : List ℕ)
-    → from config lent s place (value target []) tree used text ≡ after config lent s (found .place) (add target (decodedLeaf s (found .leaf))) (rootKey []) tree used text
-value-ends {config} {s} {place} {found} g target lent tree used text =
-    scan-value (g .scan .passed) target lent tree used text
-    ∙ from-ends config s (g .end) (found .place) (g .symbol) (g .scan .stop) (g .scan .took) (value target (segment s place (g .end))) (λ raw. refl) lent tree used text
-    ∙ ap (λ (leaf : leaves.Leaf). after config lent s (found .place) (add target leaf) (rootKey []) tree used text) (sym (g .is))

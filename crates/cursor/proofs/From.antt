@@ -1,23 +1,19 @@
 -- The reading from a place on: what a taking there does, and where it starts and ends.
-use mathlib.Core.Path.{_≡_, refl, sym, ap, _∙_}
+use mathlib.Core.Path.{_≡_, refl, ap, _∙_}
 use mathlib.Core.Bool.{Bool, true, false, cond}
-use mathlib.Core.Option.{Option, none, some}
 use mathlib.Core.List.{List, [], _∷_}
 use Prim.Native.Nat.{ℕ, _+_, _≤_, _<_}
 use native.Mathlib.Omega.{arith}
 use lib.ListN.{length, drop, drop-of-length-le}
-use Rattle.laws.proofs.Cases.{true-false}
 use Rattle.config.specs.declared.Config.{Config}
 use Rattle.reading.specs.Values.{Value, uninitialized}
 use Rattle.reading.specs.Charging.{Lent}
-use Rattle.reading.specs.Taking.{Symbol, ampersand, equals, opening, closing, other, byteTokens, formTokens, tokens}
+use Rattle.reading.specs.Taking.{Symbol, byteTokens, formTokens, tokens}
 use Rattle.reading.specs.Scanning.{Mode, rootKey, skip, _then_, step, finish}
 use Rattle.reading.specs.Running.{accepted}
 use Rattle.reading.specs.Reading.{parsed}
-use Rattle.cursor.specs.declared.scanning.Until.the-variants.{Value as ValueScan}
 use Rattle.cursor.specs.Segments.{segment}
-use Rattle.cursor.specs.Takings.{Takes, TakesEnd, Took}
-use Rattle.cursor.specs.Scans.{stops}
+use Rattle.cursor.specs.Takings.{Takes, TakesEnd}
 use Rattle.cursor.specs.From.{from, after}
 use Rattle.cursor.proofs.Segments.{length-segment}
 
@@ -50,16 +46,6 @@ pub from-end : {s : List ℕ} {i j : ℕ} → TakesEnd s i j → (config : Confi
     → from config lent s i mode tree used text ≡ after config lent s j (finish config mode) (rootKey []) tree used text
 unfolding from
 from-end {s} {i} {j} k config lent mode tree used text = rw (no-tokens config s i (omega arith), no-tokens config s j (omega arith), k .on)
-
--- The end of a pair: `&` or the end, in a mode where both do the same.
-pub from-ends : (config : Config) (s : List ℕ) (i j : ℕ) (o : Option Symbol) → stops ValueScan o ≡ true → Took config s i o j → (m : Mode) → ((raw : List ℕ) → step config m ampersand raw ≡ finish config m then rootKey [])
-    → (lent : Lent) (tree : Value) (used : ℕ) (text : List ℕ) → from config lent s i m tree used text ≡ after config lent s j (finish config m) (rootKey []) tree used text
-from-ends config s i j (some ampersand) e k m g lent tree used text = from-take k lent m tree used text ∙ rw (g (segment s i j))
-from-ends config s i j (some equals) e k m g lent tree used text = true-false (sym e)
-from-ends config s i j (some opening) e k m g lent tree used text = true-false (sym e)
-from-ends config s i j (some closing) e k m g lent tree used text = true-false (sym e)
-from-ends config s i j (some other) e k m g lent tree used text = true-false (sym e)
-from-ends config s i j none e k m g lent tree used text = from-end k config lent m tree used text
 
 -- Where nothing is left and no pair has started, the reading accepts.
 pub from-none : (config : Config) (lent : Lent) (s : List ℕ) (i : ℕ) → length s ≤ i → (tree : Value) (used : ℕ) (text : List ℕ)

@@ -39,7 +39,8 @@ pub record ScanBounds (s : List ℕ) (place end place′ : ℕ) : Type 0 where
   pub on : place < place′
   pub within : place′ ≤ length s + 1
 
-pub scan-bounds : {until : Until} {config : Config} {s : List ℕ} {place end : ℕ} {o : Option Symbol} {place′ : ℕ} → Scan until config s place end o place′ → ScanBounds s place end place′
+pub scan-bounds : {until : Until} {config : Config} {s : List ℕ} {place end : ℕ} {o : Option Symbol} {place′ : ℕ}
+    → Scan until config s place end o place′ → ScanBounds s place end place′
 scan-bounds {config = config} {s = s} {end = end} {o = o} {place′ = place′} g =
     let b = took-bounds config s end place′ o (g .took) in
     record { long = passed-le (g .passed); inside = b .inside; step = b .on; on = omega (arith, passed-le (g .passed)); within = b .within }
@@ -50,12 +51,14 @@ Lengthens config until m = (x : List ℕ) (y : Symbol) (raw : List ℕ) → stop
 
 -- One induction for every kind of scan.
 passed-from : {until : Until} {config : Config} {s : List ℕ} {i j : ℕ} → Passed until config s i j → (m : List ℕ → Mode) → Lengthens config until m
-    → (x : List ℕ) (lent : Lent) (tree : Value) (used : ℕ) (text : List ℕ) → from config lent s i (m x) tree used text ≡ from config lent s j (m (x ++ segment s i j)) tree used text
+    → (x : List ℕ) (lent : Lent) (tree : Value) (used : ℕ) (text : List ℕ) → from config lent s i (m x) tree used text ≡ from config lent s j
+    (m (x ++ segment s i j)) tree used text
 passed-from {s = s} {i = i} here m g x lent tree used text = rw (segment-none s i, append-nil x)
 passed-from {config = config} {s = s} {i = i} {j = k} (more {i = j} {symbol = y} p w e) m g x lent tree used text =
     passed-from p m g x lent tree used text
     ∙ from-skip w (m (x ++ segment s i j)) (m ((x ++ segment s i j) ++ segment s j k)) (g (x ++ segment s i j) y (segment s j k) e) lent tree used text
-    ∙ ap (λ (z : List ℕ). from config lent s k (m z) tree used text) (append-assoc x (segment s i j) (segment s j k) ∙ ap (x ++_) (segment-join s i j k (passed-le p) (omega (arith, w .on))))
+    ∙ ap (λ (z : List ℕ). from config lent s k (m z) tree used text)
+    (append-assoc x (segment s i j) (segment s j k) ∙ ap (x ++_) (segment-join s i j k (passed-le p) (omega (arith, w .on))))
 
 no-nesting : (b : Bool) → not b ≡ false → b ≡ true
 no-nesting true e = refl
@@ -118,7 +121,8 @@ pub record Passing (until : Until) (config : Config) (s : List ℕ) (cursor₀ c
 pub passing-start : {until : Until} {config : Config} {s : List ℕ} {cursor : Cursor} → cursor .place ≤ length s → Passing until config s cursor cursor
 passing-start h = record { passed = here; start = refl; inside = h }
 
-passed-more : {until : Until} {config : Config} {s : List ℕ} {i j k : ℕ} (o : Option Symbol) → Took config s j o k → stops until o ≡ false → Passed until config s i j → (Passed until config s i k) × (k ≤ length s)
+passed-more : {until : Until} {config : Config} {s : List ℕ} {i j k : ℕ} (o : Option Symbol) → Took config s j o k → stops until o ≡ false
+    → Passed until config s i j → (Passed until config s i k) × (k ≤ length s)
 passed-more (some y) w e p = (more p w e, w .within)
 passed-more none w e p = true-false e
 

@@ -13,7 +13,7 @@ use Rattle.laws.proofs.Cases.{split, true-false}
 use Rattle.laws.proofs.Lists.{drop-1, drop-3}
 use Rattle.config.specs.declared.Config.{Config}
 use Rattle.reading.specs.Taking as taking
-use Rattle.reading.specs.Taking.{opening, closing, opens, closes, neither, escape, token, symbolOf, byteToken, byteTokens, formTokens, tokens}
+use Rattle.reading.specs.Taking.{opening, closing, opens, closes, neither, escape, token, symbolOf, byteToken, byteTokens, formTokens}
 use Rattle.cursor.specs.declared.taking.Symbol.{Symbol}
 use Rattle.cursor.specs.declared.taking.Symbol.the-variants.{Ampersand, Equals, Opening, Closing, Other, End}
 use Rattle.cursor.specs.declared.taking.Cursor.{Cursor}
@@ -32,7 +32,8 @@ escape-short config s i h = go (config .form) (drop i s) (omega (arith, length-d
     go true (b ∷ c ∷ []) k = refl
     go true (b ∷ c ∷ d ∷ r) k = absurd (omega arith)
 
-pub escape-long : (config : Config) (s : List ℕ) (i : ℕ) → 3 ≤ length s - i → config .form ≡ true → escapeIn config (drop i s) ≡ escape (getD s i 0) (getD s (i + 1) 0) (getD s (i + 2) 0)
+pub escape-long : (config : Config) (s : List ℕ) (i : ℕ) → 3 ≤ length s - i → config .form ≡ true
+    → escapeIn config (drop i s) ≡ escape (getD s i 0) (getD s (i + 1) 0) (getD s (i + 2) 0)
 escape-long config s i h f = rw f (ap escapeAhead (drop-3 s i (omega arith)))
 
 -- A byte that is taken alone.
@@ -60,7 +61,8 @@ takes-byte config s i h e =
 
 -- An escaped bracket.
 module _ (config : Config) (s : List ℕ) (i : ℕ) where
-  takes-three : (y : taking.Symbol) (b c d : ℕ) (r : List ℕ) → config .form ≡ true → drop i s ≡ b ∷ c ∷ d ∷ r → formTokens (b ∷ c ∷ d ∷ r) ≡ token y b (c ∷ d ∷ []) ∷ formTokens r
+  takes-three : (y : taking.Symbol) (b c d : ℕ) (r : List ℕ) → config .form ≡ true → drop i s ≡ b ∷ c ∷ d ∷ r
+      → formTokens (b ∷ c ∷ d ∷ r) ≡ token y b (c ∷ d ∷ []) ∷ formTokens r
       → Takes config s i y (i + 3)
   unfolding segment
   takes-three y b c d r f q e =
@@ -76,7 +78,8 @@ module _ (config : Config) (s : List ℕ) (i : ℕ) where
         list = rw (f, q, e, rest);
       }
 
-  takes-escape : (e : taking.Escape) (y : taking.Symbol) → ((b c d : ℕ) (r : List ℕ) → escape b c d ≡ e → formTokens (b ∷ c ∷ d ∷ r) ≡ token y b (c ∷ d ∷ []) ∷ formTokens r) → (neither ≡ e → ⊥)
+  takes-escape : (e : taking.Escape) (y : taking.Symbol)
+      → ((b c d : ℕ) (r : List ℕ) → escape b c d ≡ e → formTokens (b ∷ c ∷ d ∷ r) ≡ token y b (c ∷ d ∷ []) ∷ formTokens r) → (neither ≡ e → ⊥)
       → escapeIn config (drop i s) ≡ e → Takes config s i y (i + 3)
   takes-escape e y shape other q = split (config .form) (λ f. go f (drop i s) refl (simp f at q)) (λ f. absurd (other (simp f at q)))
     where
@@ -92,8 +95,9 @@ module _ (config : Config) (s : List ℕ) (i : ℕ) where
   pub takes-closing : escapeIn config (drop i s) ≡ closes → Takes config s i closing (i + 3)
   takes-closing = takes-escape closes closing (λ b c d r h. rw h) (λ h. let z : _≡_ {A = ℕ} 0 1 = cc in omega arith)
 
--- What `next` answers, told by what `advance` does.
-pub next-is : {config : Config} {s : List ℕ} {cursor : Cursor} {taken : Taken} {symbol : Symbol} {place : ℕ} → taken ≡ advanced symbol cursor place → Took config s (cursor .place) (yielded symbol) place → Next config s cursor taken
+-- What a taking answers, told by what `advance` does.
+pub next-is : {config : Config} {s : List ℕ} {cursor : Cursor} {taken : Taken} {symbol : Symbol} {place : ℕ} → taken ≡ advanced symbol cursor place
+    → Took config s (cursor .place) (yielded symbol) place → Next config s cursor taken
 next-is e k = rw e (record { took = k; start = refl; end = refl })
 
 -- Two symbols of one number are one symbol: `sameSymbol` tells equality.

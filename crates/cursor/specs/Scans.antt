@@ -39,7 +39,8 @@ stops until symbol = stopsAt (stopsOf until) symbol
 -- Takings from one place to another, none of which ends the scan.
 pub data Passed (until : Until) (config : Config) (input : List ℕ) (place : ℕ) : ℕ → Type 0 where
   here : Passed until config input place place
-  more : {i j : ℕ} {symbol : Symbol} → Passed until config input place i → Takes config input i symbol j → stops until (some symbol) ≡ false → Passed until config input place j
+  more : {i j : ℕ} {symbol : Symbol} → Passed until config input place i → Takes config input i symbol j → stops until (some symbol) ≡ false
+      → Passed until config input place j
 
 -- A scan from a place: it passes on to `end`, and the taking there, which moves the place to place′, ends it.
 pub record Scan (until : Until) (config : Config) (input : List ℕ) (place end : ℕ) (symbol : Option Symbol) (place′ : ℕ) : Type 0 where

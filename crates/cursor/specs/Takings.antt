@@ -78,7 +78,7 @@ Took config input place none place′ = TakesEnd input place place′
 abbrev pub advanced : Symbol → Cursor → ℕ → Taken
 advanced symbol cursor place′ = record { symbol = symbol; cursor = record { place = place′; start = cursor .start; end = cursor .place } }
 
--- What `next` answers.
+-- What a taking answers, and the cursor after it.
 pub record Next (config : Config) (input : List ℕ) (cursor : Cursor) (taken : Taken) : Type 0 where
   pub took : Took config input (cursor .place) (yielded (taken .symbol)) (taken .cursor .place)
   pub start : taken .cursor .start ≡ cursor .start

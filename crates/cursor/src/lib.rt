@@ -1,5 +1,6 @@
-// Scanning the input: the source's `next`, `collect_key` and `collect_value` (src/de/parse.rs), over a cursor that goes in and comes back
-// by value. What they answer is in specs/Takings, specs/Scans and specs/Collected; specs/From ties it to the reading.
+// Scanning the input: the source's `next`, `collect_key` and `collect_value` (src/de/parse.rs). `next` advances the cursor that its caller
+// lends; its one caller, `take`, lends its own copy, so that from there on a cursor goes in and comes back by value.
+// What they answer is in specs/Takings, specs/Scans and specs/Collected; specs/From ties it to the reading.
 // Below it stand what an input means (reading), the key rule (key), decoding (decode), the settings (config) and laws.
 mod collecting;
 mod scanning;
@@ -19,3 +20,4 @@ pub use taking::Symbol;
 pub use taking::Taken;
 pub use taking::clear_acc;
 pub use taking::next;
+pub use taking::take;

@@ -2,7 +2,7 @@
 use crate::taking::Cursor;
 use crate::taking::Symbol;
 use crate::taking::Taken;
-use crate::taking::next;
+use crate::taking::take;
 use config::Config;
 ghost use mathlib.Core.Path.{_≡_};
 ghost use Prim.Native.Nat.{_≤_};
@@ -81,7 +81,7 @@ pub fn take_until(input: &[u8], config: Config, until: Until, cursor: Cursor) ->
     let stops = stops_of(until);
     let mut scan = cursor;
     loop {
-        let taken = next(input, config, scan);
+        let taken = take(input, config, scan);
         let symbol = taken.symbol;
         if stops_at(stops, symbol) {
             return taken;

@@ -127,8 +127,8 @@ fn advance(symbol: Symbol, cursor: Cursor, place: usize) -> Taken
     }
 }
 
-// Takes a byte, or `%5B` or `%5D` as one bracket where the flag is on. The segment's start stays.
-pub fn next(input: &[u8], config: Config, cursor: Cursor) -> Taken
+// A taking by value: a byte, or `%5B` or `%5D` as one bracket where the flag is on. The segment's start stays.
+fn step(input: &[u8], config: Config, cursor: Cursor) -> Taken
     requires { ⌜ cursor .place ≤ length (now input) ⌝ }
     ensures { λ r. ⌜ Next config (now (input .entry)) cursor r ⌝ }
 {
@@ -140,6 +140,29 @@ pub fn next(input: &[u8], config: Config, cursor: Cursor) -> Taken
         Escape::Opens => advance(Symbol::Opening, cursor, place + 3),
         Escape::Closes => advance(Symbol::Closing, cursor, place + 3),
         Escape::Neither => advance(symbol_of(input[place]), cursor, place + 1),
+    }
+}
+
+// A taking that advances the cursor that its caller lends: `step`'s cursor is stored in its place.
+pub fn next(cursor: &mut Cursor, input: &[u8], config: Config) -> Symbol
+    requires { ⌜ now cursor .place ≤ length (now input) ⌝ }
+    ensures { λ r. ⌜ Next config (now (input .entry)) (now (cursor .entry)) (record { symbol = r; cursor = now (cursor .exit) }) ⌝ }
+{
+    let taken = step(input, config, *cursor);
+    *cursor = taken.cursor;
+    taken.symbol
+}
+
+// A taking over a copy of the cursor, lent to `next`: the symbol, and the cursor as it comes back.
+pub fn take(input: &[u8], config: Config, cursor: Cursor) -> Taken
+    requires { ⌜ cursor .place ≤ length (now input) ⌝ }
+    ensures { λ r. ⌜ Next config (now (input .entry)) cursor r ⌝ }
+{
+    let mut moved = cursor;
+    let symbol = next(&mut moved, input, config);
+    Taken {
+        symbol: symbol,
+        cursor: moved,
     }
 }
 

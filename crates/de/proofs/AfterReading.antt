@@ -1,5 +1,5 @@
 -- A field read after a reading: from what the code finds in the records to what is read from the tree.
-use Prim.Native.Nat.{ℕ, _<_}
+use Prim.Native.Nat.{ℕ, _+_, _<_, _≤_}
 use mathlib.Core.Path.{_≡_, refl, ap, sym, _∙_, subst}
 use mathlib.Core.Logic.{_≢_}
 use mathlib.Core.Bool.{cond}
@@ -9,11 +9,13 @@ use lib.Dec.{leb}
 use lib.ListN.{length, replicate}
 use borrow.Author.Tests.{ne-eqb}
 use Rattle.config.specs.declared.Config.{Config}
+use Rattle.config.specs.Limits.{maxLen}
 use Rattle.reading.specs.Values.{unkeyed, Value}
 use Rattle.reading.specs.Running.{Answer, accepted, refusedAt, Accepts, accepts}
 use Rattle.reading.specs.Reading.{Outcome, lentBy, parsed, outcome, reading}
 use Rattle.reading.proofs.Laying.{laid-more}
 use Rattle.reading.proofs.Outcomes.{Sound, of-accepted}
+use Rattle.reading.proofs.Placed.{placed}
 use Rattle.records.specs.Store.{recordCount}
 use Rattle.records.proofs.Forests.{indicator-same}
 use Rattle.de.specs.declared.DuplicateKeyBehavior.{DuplicateKeyBehavior}
@@ -26,9 +28,10 @@ use Rattle.parse.specs.Outcomes.{outcomeOf}
 use Rattle.de.specs.Fields.{rootField}
 use Rattle.de.specs.Lists.{Listed}
 use Rattle.de.specs.Reads.{TextOutcome, ListOutcome, textAnswer, textOfField, textAfter, textRead, listAnswer, listWords, listOfField, listAfter, listRead}
-use Rattle.de.specs.OnRecords.{Readable, fieldAt, fieldTextAt, fieldListAt, listReadAnswer, Leaves, wrote, cleared}
+use Rattle.de.specs.OnRecords.{Readable, fieldAt, fieldTextAt, fieldListAt, elementCount, listReadAnswer, Leaves, wrote, cleared}
 use Rattle.de.proofs.Stored.{left, filled, stores, readable, some-record}
 use Rattle.de.proofs.Agree.{At, field-agrees, field-text, field-list}
+use Rattle.de.proofs.Few.{FewElements, few}
 
 -- The outcome of an accepted reading, with its tree.
 abbrev pub Read : List ℕ → List ℕ → Outcome → Value → ℕ → List ℕ → Type 0
@@ -71,6 +74,16 @@ module _ (words text : List ℕ) {W X : List ℕ} {o : Outcome} {records bytes :
   text-read d name (accepts {tree = v} k) =
       rw e (ap (λ (y : TextRead). record { answer = textAnswer records bytes y; words = W; text = X }) (field-text d (field-agrees name v (at-root k))))
 
+  element-count : (d : DuplicateKeyBehavior) (name : List ℕ) (size : ℕ) {l : List ℕ} {r : ListRead} {a : Answer} → Accepts (Read words text o) a
+      → Leaves size l (fieldListAt d W X size (fieldAt W X name)) r → elementCount r ≤ records
+  element-count d name size {l} {r} (accepts {tree = v} {used = n} {text = t} k) h =
+      go (few d size name v (omega (arith, stores words text v n t (k .0) .holds .sized, ap (λ (y : Outcome). y .records) (sym (k .1) ∙ e))))
+      (subst (λ (y : Listed). Leaves size l y r) (field-list d size (field-agrees name v (at-root k))) h)
+    where
+      go : {whole : Listed} {q : ListRead} → FewElements records whole → Leaves size l whole q → elementCount q ≤ records
+      go f (wrote z) = f
+      go f (cleared z) = omega arith
+
   list-read : (d : DuplicateKeyBehavior) (name list l : List ℕ) {r : ListRead} {a : Answer} → Accepts (Read words text o) a
       → Leaves (length list) l (fieldListAt d W X (length list) (fieldAt W X name)) r
       → _≡_ {A = ListOutcome} (record { read = record { answer = listReadAnswer records bytes r; words = W; text = X }; list = l })
@@ -96,6 +109,10 @@ module _ (config : Config) (input words text W X : List ℕ) {p : Parsed} (e : o
     pub readable-after : Readable W X × (0 < recordCount W)
     readable-after = can-read words text o-is reads
 
+    pub few-listed : (d : DuplicateKeyBehavior) (name : List ℕ) (size : ℕ) {l : List ℕ} {r : ListRead}
+        → Leaves size l (fieldListAt d W X size (fieldAt W X name)) r → elementCount r ≤ records
+    few-listed d name size g = element-count words text o-is d name size reads g
+
     pub text-accepted : (d : DuplicateKeyBehavior) (name : List ℕ) {a : FieldRead} {r : TextRead} → a ≡ textAnswer records bytes r
         → r ≡ fieldTextAt d W X (fieldAt W X name)
         → _≡_ {A = TextOutcome} (record { answer = a; words = W; text = X }) (textRead config d input name words text)
@@ -111,6 +128,9 @@ module _ (config : Config) (input words text W X : List ℕ) {p : Parsed} (e : o
   module _ {number place : ℕ} (h : p ≡ Refused number place) where
     r-is : reading config input words text ≡ record { number = number; place = place; records = 0; bytes = 0; words = W; text = X }
     r-is = sym (rw h at e)
+
+    pub place-bounded : place ≤ maxLen + 1
+    place-bounded = omega (arith, placed config input words text .bounded, ap (λ (y : Outcome). y .place) r-is)
 
     -- No accepted reading uses no record.
     refused-some : number ≢ 0

@@ -28,7 +28,7 @@ use Rattle.de.specs.declared.refusals.Refusal.the-variants.{NoSuchField,
 use Rattle.de.specs.declared.field.FieldAt.{FieldAt}
 use Rattle.de.specs.declared.field.FieldAt.the-variants.{Record, Refused as RefusedField}
 use Rattle.de.specs.declared.text.TextRead.{TextRead}
-use Rattle.de.specs.declared.text.TextRead.the-variants.{Text, Refused}
+use Rattle.de.specs.declared.text.TextRead.the-variants.{Refused}
 use Rattle.de.specs.Fields.{Field, found, refused, isNamed, named, rootField}
 use Rattle.de.specs.Texts.{singleText, lastText, several, textOf}
 use Rattle.de.specs.Lists.{isNext, inTurn, count, elements, intKeys, listOf}

@@ -5,6 +5,7 @@ pub mod Fields
 pub mod Lists
 pub mod Stored
 pub mod Agree
+pub mod Few
 pub mod AfterReading
 pub mod Answered
 pub mod Examples

@@ -1,5 +1,5 @@
 -- The words and the text that an accepted reading leaves hold its tree (`Stores` of crate tree).
-use Prim.Native.Nat.{ℕ, zero, suc, _+_, _*_, _-_, _<_, _≤_}
+use Prim.Native.Nat.{ℕ, _+_, _*_, _-_, _<_, _≤_}
 use mathlib.Core.Path.{_≡_, refl, ap, sym, _∙_, subst}
 use mathlib.Core.List.{List, _++_}
 use native.Mathlib.Omega.{arith}
@@ -10,8 +10,9 @@ use lib.ListN.{length, getD, replicate, length-append, length-replicate}
 use lib.Seq.{getD-append-add}
 use Rattle.config.specs.Limits.{recordWidth}
 use Rattle.laws.proofs.Cases.{split, below as by-order}
+use Rattle.laws.proofs.Lists.{zeros}
 use Rattle.reading.specs.Values.{Label, unkeyed, intKey, stringKey, Value, uninitialized, null, noValue, string, map, sequence, Forest, none, child}
-use Rattle.reading.specs.Records.{first, firstChild, layout, textOffset, textLength}
+use Rattle.reading.specs.Records.{layout, textOffset, textLength}
 use Rattle.reading.specs.Trees.{plain, entries, elements}
 use Rattle.reading.specs.Counts.{values, entryValues, elementValues}
 use Rattle.reading.specs.Laid.{Lies, LaidLabel, Laid, LaidAll}
@@ -32,19 +33,8 @@ use Rattle.records.proofs.Forests.{indicator-other}
 use Rattle.records.proofs.Held.{well-formed}
 use Rattle.tree.specs.Nodes.{labelWords, recordOf, below, nodes, rooted}
 use Rattle.tree.specs.Stored.{Stores}
+use Rattle.tree.proofs.Whole.{first-node, first-below}
 use Rattle.de.specs.OnRecords.{Readable}
-
-first-node : (cs : Forest) → firstNode (nodes cs) ≡ first cs
-first-node none = refl
-first-node (child m l v cs) = refl
-
-first-below : (v : Value) → firstNode (below v) ≡ firstChild v
-first-below uninitialized = refl
-first-below null = refl
-first-below noValue = refl
-first-below (string o x) = refl
-first-below (map cs) = first-node cs
-first-below (sequence cs) = first-node cs
 
 -- Each value's record.
 module _ (w : List ℕ) where
@@ -185,11 +175,6 @@ inside-at ws text (node n r d s) k i m c =
     go (yes e) q f g = subst (InsideText text) (sym (ap (recordAt ws) e ∙ k .0 .fixed)) (i .0)
     go (no e) (yes q) f g = f q
     go (no e) (no q) f g = g (omega (arith, indicator-other m n e))
-
-zeros : (n i : ℕ) → getD {A = ℕ} (replicate n 0) i 0 ≡ 0
-zeros zero i = refl
-zeros (suc n) zero = refl
-zeros (suc n) (suc i) = zeros n i
 
 module _ (words text : List ℕ) (v : Value) (n : ℕ) (t : List ℕ) (s : Sound (lentBy words text) v n t) where
   abbrev pub left : List ℕ

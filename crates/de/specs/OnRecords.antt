@@ -127,6 +127,11 @@ abbrev pub fieldListAt : DuplicateKeyBehavior → List ℕ → List ℕ → ℕ 
 fieldListAt duplicates ws text size (Record n) = listAt duplicates ws text size n
 fieldListAt duplicates ws text size (RefusedField x) = refused x
 
+-- The number of elements that the code answers.
+abbrev pub elementCount : ListRead → ℕ
+elementCount (Elements count) = count
+elementCount (RefusedList x) = 0
+
 -- The result for the code's answer.
 abbrev pub listReadAnswer : ℕ → ℕ → ListRead → FieldRead
 listReadAnswer records bytes (Elements count) =

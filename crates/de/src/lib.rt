@@ -8,13 +8,15 @@ mod text; // the text of a record
 
 ghost use mathlib.Core.Path.{_≡_};
 ghost use mathlib.Core.Bool.{cond};
+ghost use Prim.Native.Nat.{_≤_};
 ghost use lib.Dec.{leb};
 ghost use lib.ListN.{length, replicate};
 ghost use Rattle.de.specs.Reads.{textAnswer, textRead, listRead};
-ghost use Rattle.de.specs.OnRecords.{listReadAnswer};
+ghost use Rattle.de.specs.OnRecords.{elementCount, listReadAnswer};
 use config::Config;
 use list::ListRead;
 use parse::Parsed;
+use records::clearing::clear_words;
 use refusals::code;
 use text::TextRead;
 
@@ -25,18 +27,19 @@ pub enum DuplicateKeyBehavior {
 }
 
 // Document 01's result of a field read: the reading's with its own number, and the text's offset and length (of a list, 0 and the number of
-// elements).
+// elements). C gets it as it stands.
+#[repr(C)]
 pub struct FieldRead {
     pub number: u32,
-    pub place: usize,
+    pub place: u32,
     pub records: u32,
     pub bytes: u32,
-    pub offset: usize,
-    pub len: usize,
+    pub offset: u32,
+    pub len: u32,
 }
 
 // The result where a number stands: of the reading with its place, or of the field after an accepted reading, whose counts stay.
-fn refused(number: u32, place: usize, records: u32, bytes: u32) -> FieldRead
+fn refused(number: u32, place: u32, records: u32, bytes: u32) -> FieldRead
     ensures { λ r. ⌜ r ≡ record { number = number; place = place; records = records; bytes = bytes; offset = 0; len = 0 } ⌝ }
 {
     FieldRead {
@@ -59,15 +62,16 @@ fn text_answer(records: u32, bytes: u32, read: TextRead) -> FieldRead
             place: 0,
             records,
             bytes,
-            offset: offset as usize,
-            len: len as usize,
+            offset,
+            len,
         },
         TextRead::Refused(refusal) => refused(code(refusal), 0, records, bytes),
     }
 }
 
-// The result of a list read after an accepted reading.
+// The result of a list read after an accepted reading. Each element is one of its records, so their number fits.
 fn list_answer(records: u32, bytes: u32, read: ListRead) -> FieldRead
+    requires { ⌜ elementCount read ≤ records ⌝ }
     ensures { λ r. ⌜ r ≡ listReadAnswer records bytes read ⌝ }
 {
     match read {
@@ -77,7 +81,7 @@ fn list_answer(records: u32, bytes: u32, read: ListRead) -> FieldRead
             records,
             bytes,
             offset: 0,
-            len: count,
+            len: count as u32,
         },
         ListRead::Refused(refusal) => refused(code(refusal), 0, records, bytes),
     }
@@ -90,7 +94,7 @@ fn clear_after(number: u32, list: &mut [u32])
     if number <= 3 {
         return;
     }
-    list::clear(list);
+    clear_words(list);
 }
 
 // Reads the input into the lent words and text, and the field of a name in its root as a text. Words and text are as the reading leaves them.
@@ -109,7 +113,7 @@ pub fn deserialize_str(
             let read = text::field_text(words, text, name, duplicates);
             text_answer(records, bytes, read)
         }
-        Parsed::Refused(number, place) => refused(number, place, 0, 0),
+        Parsed::Refused(number, place) => refused(number, place as u32, 0, 0),
     }
 }
 
@@ -133,7 +137,7 @@ pub fn deserialize_seq(
         }
         Parsed::Refused(number, place) => {
             clear_after(number, list);
-            refused(number, place, 0, 0)
+            refused(number, place as u32, 0, 0)
         }
     }
 }

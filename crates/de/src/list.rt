@@ -11,23 +11,13 @@ use crate::field::FieldAt;
 use crate::refusals::Refusal;
 use crate::text;
 use crate::text::TextRead;
+use records::clearing::clear_words;
 use records::store;
 
 // The number of elements, or a refusal.
 pub enum ListRead {
     Elements(usize),
     Refused(Refusal),
-}
-
-// Makes every word zero.
-pub(crate) fn clear(list: &mut [u32])
-    ensures { λ _. ⌜ now (list .exit) ≡ replicate (length (now (list .entry))) 0 ⌝ }
-{
-    let mut i = 0;
-    while i < list.len() {
-        list[i] = 0;
-        i += 1;
-    }
 }
 
 // Writes the offset and length of element i. Nothing else changes.
@@ -206,7 +196,7 @@ fn read_or_clear(
     match read_list(words, text, n, duplicates, list) {
         ListRead::Elements(count) => ListRead::Elements(count),
         ListRead::Refused(refusal) => {
-            clear(list);
+            clear_words(list);
             ListRead::Refused(refusal)
         }
     }
@@ -223,7 +213,7 @@ pub(crate) fn field_list(
     requires { ⌜ Readable (now words) (now text) ⌝ ∗ ⌜ 0 < recordCount (now words) ⌝ }
     ensures { λ r. ⌜ Leaves (length (now (list .entry))) (now (list .exit)) (fieldListAt duplicates (now (words .entry)) (now (text .entry)) (length (now (list .entry))) (fieldAt (now (words .entry)) (now (text .entry)) (now (name .entry)))) r ⌝ }
 {
-    clear(list);
+    clear_words(list);
     match field::root_field(words, text, name) {
         FieldAt::Record(n) => read_or_clear(words, text, n, duplicates, list),
         FieldAt::Refused(refusal) => ListRead::Refused(refusal),

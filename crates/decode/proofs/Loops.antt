@@ -7,13 +7,13 @@ use native.Mathlib.Numerals.{add-one}
 use native.Mathlib.Omega.{arith}
 use borrow.Author.Tests.{leb-true, ne-eqb}
 use lib.Dec.{eqb, leb}
-use lib.ListN.{length, take, drop, getD, set, length-set, length-append, drop-of-length-le, take-append-drop}
-use lib.Seq.{length-take-le, take-suc-set, drop-set-lt, drop-drop}
+use lib.ListN.{length, take, drop, getD, set, length-set, drop-of-length-le, take-append-drop}
+use lib.Seq.{take-suc-set, drop-set-lt, drop-drop}
 use Rattle.laws.proofs.Cases.{split}
 use Rattle.laws.proofs.Lists.{drop-1}
 use Rattle.decode.specs.declared.Decoded.the-variants.{Yes, No}
-use Rattle.decode.specs.Hex.{isHex, byteOf}
-use Rattle.decode.specs.Decoding.{decoded, plusToSpace, answer}
+use Rattle.decode.specs.Hex.{isHex}
+use Rattle.decode.specs.Decoding.{decoded, answer}
 use Rattle.decode.specs.Stepping.{rest, Yields}
 use Rattle.decode.specs.Shown.{plain, allPlain}
 use Rattle.decode.proofs.Steps.{rest-zero, rest-done}

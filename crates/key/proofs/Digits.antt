@@ -11,8 +11,8 @@ use Rattle.laws.proofs.Lists.{drop-1}
 use Rattle.config.specs.declared.Config.{Config}
 use Rattle.decode.specs.Decoding.{decoded}
 use Rattle.key.specs.declared.KeyKind.the-variants.{None, Int, String}
-use Rattle.key.specs.Keys.{int, str, isDigit, allDigits, valueFrom, maxInt}
-use Rattle.key.specs.Collected.{Collected, no-key, key, collected, keyIn}
+use Rattle.key.specs.Keys.{int, str, allDigits, valueFrom, maxInt}
+use Rattle.key.specs.Collected.{Collected, key, collected, keyIn}
 
 -- The key of a segment whole, of which digits of value v are read and xs is left.
 abbrev keyFrom : List ℕ → ℕ → List ℕ → Collected

@@ -1,7 +1,7 @@
 -- Lists from a place on, parts of a slice lent and given back, and the loop that clears a slice.
 use mathlib.Core.Path.{_≡_, refl, ap, _∙_}
 use mathlib.Core.List.{List, _∷_, _++_, append-nil}
-use Prim.Native.Nat.{ℕ, _+_, _-_, _≤_, _<_}
+use Prim.Native.Nat.{ℕ, zero, suc, _+_, _-_, _≤_, _<_}
 use native.Mathlib.Numerals.{add-one}
 use native.Mathlib.Omega.{arith}
 use lib.ListN.{length, take, drop, getD, set, replicate, length-drop, drop-of-length-le, length-set}
@@ -32,6 +32,12 @@ put-tail a xs ys = simp (drop-of-length-le (drop a xs) (rest-le a xs), append-ni
   where
     rest-le : (a : ℕ) (xs : List ℕ) → length (drop a xs) ≤ length xs - a
     rest-le a xs = simp length-drop (omega arith)
+
+-- Zeros have zero everywhere, and past their end too.
+pub zeros : (n i : ℕ) → getD {A = ℕ} (replicate n 0) i 0 ≡ 0
+zeros zero i = refl
+zeros (suc n) zero = refl
+zeros (suc n) (suc i) = zeros n i
 
 -- The invariant of a loop that clears a slice: zeros so far, and the rest as it was.
 pub record Clearing (l₀ l : List ℕ) (i : ℕ) : Type 0 where

@@ -1,6 +1,6 @@
 // The listing of a reading's outcome, as document 01's listing program prints it, and the head of that program's input: a library over slices.
 // The listing is specs/Listing; that `list` writes it of every reading is specs/Complete.
-// Below it stand the definitions of a reading (reading) and what these stand on.
+// Below it stand the words of a record (records), the definitions of a reading (reading) and what these stand on.
 pub mod head; // the head of the program's input
 mod lines; // a value's own lines
 mod numbers; // decimal and hex

@@ -9,6 +9,7 @@ ghost use Rattle.listing.specs.Output.{page, Puts};
 use crate::numbers;
 use crate::output;
 use crate::record;
+use records::store;
 
 // Writes a value's key: `-` for none, `i` and an Int's value, or `s` and a String's bytes.
 fn write_key(words: &[u32], text: &[u8], n: u32, keyed: bool, out: &mut [u8], at: usize) -> usize
@@ -17,13 +18,13 @@ fn write_key(words: &[u32], text: &[u8], n: u32, keyed: bool, out: &mut [u8], at
     if !keyed {
         return output::write_byte(b'-', out, at);
     }
-    let kind = record::get_word(words, n, record::KEY_KIND);
-    let key = record::get_word(words, n, record::KEY);
-    if kind == record::INT_KEY {
+    let kind = record::get_word(words, n, store::KEY_KIND);
+    let key = record::get_word(words, n, store::KEY);
+    if kind == store::INT_KEY {
         let int = output::write_byte(b'i', out, at);
         return numbers::write_decimal(key as usize, out, int);
     }
-    let len = record::get_word(words, n, record::KEY_LEN);
+    let len = record::get_word(words, n, store::KEY_LEN);
     let bytes = output::write_byte(b's', out, at);
     numbers::write_hex(record::text_part(text, key, len), out, bytes)
 }
@@ -32,19 +33,19 @@ fn write_key(words: &[u32], text: &[u8], n: u32, keyed: bool, out: &mut [u8], at
 fn write_kind(kind: u32, out: &mut [u8], at: usize) -> usize
     ensures { λ r. ⌜ Puts (ascii (kindName (byKind kind [] noEntries noElements))) (page (now (out .entry)) at) (page (now (out .exit)) r) ⌝ }
 {
-    if kind == record::MAP {
+    if kind == store::MAP {
         return output::write_bytes(b"map", out, at);
     }
-    if kind == record::SEQUENCE {
+    if kind == store::SEQUENCE {
         return output::write_bytes(b"sequence", out, at);
     }
-    if kind == record::STRING {
+    if kind == store::STRING {
         return output::write_bytes(b"string", out, at);
     }
-    if kind == record::NULL {
+    if kind == store::NULL {
         return output::write_bytes(b"null", out, at);
     }
-    if kind == record::NO_VALUE {
+    if kind == store::NO_VALUE {
         return output::write_bytes(b"novalue", out, at);
     }
     output::write_bytes(b"uninit", out, at)
@@ -54,12 +55,12 @@ fn write_kind(kind: u32, out: &mut [u8], at: usize) -> usize
 fn write_text(words: &[u32], text: &[u8], n: u32, out: &mut [u8], at: usize) -> usize
     ensures { λ r. ⌜ Puts (textItem (childless (now (words .entry)) (now (text .entry)) n)) (page (now (out .entry)) at) (page (now (out .exit)) r) ⌝ }
 {
-    let kind = record::get_word(words, n, record::KIND);
-    if kind != record::STRING {
+    let kind = record::get_word(words, n, store::KIND);
+    if kind != store::STRING {
         return output::write_byte(b'-', out, at);
     }
-    let offset = record::get_word(words, n, record::TEXT);
-    let len = record::get_word(words, n, record::TEXT_LEN);
+    let offset = record::get_word(words, n, store::TEXT);
+    let len = record::get_word(words, n, store::TEXT_LEN);
     numbers::write_hex(record::text_part(text, offset, len), out, at)
 }
 
@@ -84,7 +85,7 @@ fn write_kind_line(words: &[u32], n: u32, out: &mut [u8], at: usize) -> usize
     ensures { λ r. ⌜ Puts (line "kind=" (ascii (kindName (byKind (word (now (words .entry)) n 0) [] noEntries noElements)))) (page (now (out .entry)) at) (page (now (out .exit)) r) ⌝ }
 {
     let item = output::write_bytes(b"kind=", out, at);
-    let end = write_kind(record::get_word(words, n, record::KIND), out, item);
+    let end = write_kind(record::get_word(words, n, store::KIND), out, item);
     output::write_byte(b'\n', out, end)
 }
 

@@ -3,45 +3,14 @@ ghost use mathlib.Core.Path.{_≡_};
 ghost use Prim.Native.Nat.{_<_};
 ghost use Rattle.config.specs.Limits.{recordWidth};
 ghost use Rattle.reading.specs.Buffers.{word, textPart};
-
-// A record's width in words, and its words by their numbers.
-pub const WIDTH: usize = 8;
-
-pub const KIND: usize = 0;
-
-pub const KEY_KIND: usize = 1;
-
-pub const KEY: usize = 2;
-
-pub const KEY_LEN: usize = 3;
-
-pub const TEXT: usize = 4;
-
-pub const TEXT_LEN: usize = 5;
-
-pub const CHILD: usize = 6;
-
-pub const NEXT: usize = 7;
-
-// The kinds of a value but Uninitialized, and the key kind of an Int.
-pub const MAP: u32 = 1;
-
-pub const SEQUENCE: u32 = 2;
-
-pub const STRING: u32 = 3;
-
-pub const NULL: u32 = 4;
-
-pub const NO_VALUE: u32 = 5;
-
-pub const INT_KEY: u32 = 1;
+use records::store;
 
 // Word w of record n, or 0 past the words' end.
 pub(crate) fn get_word(words: &[u32], n: u32, w: usize) -> u32
     requires { ⌜ w < recordWidth ⌝ }
     ensures { λ r. ⌜ r ≡ word (now (words .entry)) n w ⌝ }
 {
-    let i = n as usize * WIDTH + w;
+    let i = n as usize * store::WIDTH + w;
     if i < words.len() {
         return words[i];
     }

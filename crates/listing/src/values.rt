@@ -9,6 +9,7 @@ ghost use Rattle.listing.specs.Walking.{firstOfValue, firstOfSiblings, W
 ghost use Rattle.listing.specs.Output.{page, Puts};
 use crate::lines;
 use crate::record;
+use records::store;
 
 // The place of the next byte in the output, and how many records are left to be listed.
 pub struct Progress {
@@ -33,12 +34,12 @@ fn write_value(
     let at = lines::write_own(words, text, n, keyed, level, out, from.at);
     let left = from.left - 1;
     let next = Progress { at, left };
-    let kind = record::get_word(words, n, record::KIND);
-    let first = record::get_word(words, n, record::CHILD);
-    if kind == record::MAP {
+    let kind = record::get_word(words, n, store::KIND);
+    let first = record::get_word(words, n, store::CHILD);
+    if kind == store::MAP {
         return write_map(words, text, first, true, level + 1, out, next);
     }
-    if kind == record::SEQUENCE {
+    if kind == store::SEQUENCE {
         return write_map(words, text, first, false, level + 1, out, next);
     }
     next
@@ -68,7 +69,7 @@ fn write_map(
         let next = write_value(words, text, n, keyed, level, out, Progress { at, left });
         at = next.at;
         left = next.left;
-        n = record::get_word(words, n, record::NEXT);
+        n = record::get_word(words, n, store::NEXT);
     }
     Progress { at, left }
 }
@@ -86,7 +87,7 @@ pub(crate) fn write_values(
     if number != 0 {
         return at;
     }
-    let left = words.len() / record::WIDTH;
+    let left = words.len() / store::WIDTH;
     if left == 0 {
         return at;
     }

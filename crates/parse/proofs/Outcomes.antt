@@ -29,11 +29,11 @@ use Rattle.tree.proofs.Standing.{same-lent}
 use Rattle.tree.proofs.Whole.{outcome-is, cleared, no-value}
 use Rattle.parse.specs.declared.Parsed.{Parsed}
 use Rattle.parse.specs.declared.Parsed.the-variants.{Accepted, Refused as RefusedHere}
-use Rattle.parse.specs.declared.turning.Turn.{Turn}
-use Rattle.parse.specs.declared.turning.Turn.the-variants.{Going, Refused}
+use Rattle.pairs.specs.declared.turning.Turn.{Turn}
+use Rattle.pairs.specs.declared.turning.Turn.the-variants.{Going, Refused}
 use Rattle.parse.specs.Outcomes.{outcomeOf}
-use Rattle.parse.specs.Progress.{still, Reads, Ready}
-use Rattle.parse.specs.Turns.{Ends}
+use Rattle.pairs.specs.Progress.{still, Reads, Ready}
+use Rattle.pairs.specs.Turns.{Ends}
 
 abbrev start : Here
 start = record { records = 1; bytes = 0; node = 0 }
@@ -49,7 +49,8 @@ module _ (config : Config) {s W X : List ℕ} (small : length s ≤ maxLen) (som
         laid = [];
         stands = record {
           lent-is = refl;
-          stores = subst (λ (x : List ℕ). Stores W x 1 0 uninitialized []) (sym b) (subst (λ (w : List ℕ). Stores w (replicate (length X) 0) 1 0 uninitialized []) (sym a) (cleared (length W) (length X) some));
+          stores = subst (λ (x : List ℕ). Stores W x 1 0 uninitialized []) (sym b)
+              (subst (λ (w : List ℕ). Stores w (replicate (length X) 0) 1 0 uninitialized []) (sym a) (cleared (length W) (length X) some));
           leads = root uninitialized;
         };
         onward = refl;
@@ -67,9 +68,12 @@ module _ (config : Config) {s W X : List ℕ} (small : length s ≤ maxLen) (som
   module _ (nonempty : 0 < length s) (W′ X′ : List ℕ) (w : length W′ ≡ length W) (x : length X′ ≡ length X) {turn : Turn}
       (g : (answer : Answer) → Reads config s W X start 0 (still (λ path. rootKey [])) answer → Ends answer W′ X′ turn) where
     ends : {turn′ : Turn} → turn ≡ turn′ → Ends (parsed config s (lentBy W X)) W′ X′ turn′
-    ends e = subst (λ (z : Turn). Ends (parsed config s (lentBy W X)) W′ X′ z) e (subst (λ (z : Answer). Ends z W′ X′ turn) (sym (from-start config (lentBy W X) s nonempty)) (g (from config (lentBy W X) s 0 (rootKey []) uninitialized 1 []) start-reads))
+    ends e = subst (λ (z : Turn). Ends (parsed config s (lentBy W X)) W′ X′ z) e
+        (subst (λ (z : Answer). Ends z W′ X′ turn) (sym (from-start config (lentBy W X) s nonempty))
+        (g (from config (lentBy W X) s 0 (rootKey []) uninitialized 1 []) start-reads))
 
-    pub some-accepted : {place : ℕ} {here : Here} → turn ≡ Going place here → outcomeOf (Accepted (here .records) (here .bytes)) W′ X′ ≡ outcome (length W) (length X) (parsed config s (lentBy W X))
+    pub some-accepted : {place : ℕ} {here : Here} → turn ≡ Going place here
+        → outcomeOf (Accepted (here .records) (here .bytes)) W′ X′ ≡ outcome (length W) (length X) (parsed config s (lentBy W X))
     some-accepted e =
         let y = ends e in
         sym (ap (outcome (length W) (length X)) (y .is) ∙ rw (← w, ← x) (outcome-is (y .stores)))
@@ -95,23 +99,27 @@ module _ (W X W′ X′ : List ℕ) (a : W′ ≡ replicate (length W) 0) (b : X
   text-zero = b ∙ ap (λ (n : ℕ). replicate n 0) (sym cleared-text)
 
   -- The lengths are those that were lent.
-  pub as-lent : (config : Config) (s : List ℕ) → outcome (length W′) (length X′) (parsed config s (lentBy W′ X′)) ≡ outcome (length W) (length X) (parsed config s (lentBy W X))
+  pub as-lent : (config : Config) (s : List ℕ)
+      → outcome (length W′) (length X′) (parsed config s (lentBy W′ X′)) ≡ outcome (length W) (length X) (parsed config s (lentBy W X))
   as-lent config s =
       ap (λ (lent : Lent). outcome (length W′) (length X′) (parsed config s lent)) (sym (same-lent W X W′ X′ cleared-words cleared-text))
       ∙ ap (λ (n : ℕ). outcome n (length X′) (parsed config s (lentBy W X))) cleared-words
       ∙ ap (λ (n : ℕ). outcome (length W) n (parsed config s (lentBy W X))) cleared-text
 
   -- "Empty ticket: NoValue root."
-  pub empty-accepted : (config : Config) (s : List ℕ) → length s ≡ 0 → recordWidth ≤ length W → {W″ : List ℕ} {r : Parsed} → (W″ ≡ withValue W′ 0 (childless noValueKind)) × (r ≡ Accepted 1 0)
+  pub empty-accepted : (config : Config) (s : List ℕ) → length s ≡ 0 → recordWidth ≤ length W → {W″ : List ℕ} {r : Parsed}
+      → (W″ ≡ withValue W′ 0 (childless noValueKind)) × (r ≡ Accepted 1 0)
       → outcomeOf r W″ X′ ≡ outcome (length W) (length X) (parsed config s (lentBy W X))
   empty-accepted config (c ∷ s) e some q = absurd (omega arith)
   empty-accepted config [] e some {W″} {r} q =
       let long : length W″ ≡ length W = ap length (q .0) ∙ length-withValue W′ 0 (childless noValueKind) ∙ cleared-words in
       let stores : Stores W″ X′ 1 0 noValue [] =
       subst (λ (x : List ℕ). Stores W″ x 1 0 noValue []) (sym b)
-      (subst (λ (w : List ℕ). Stores w (replicate (length X) 0) 1 0 noValue []) (sym (q .0 ∙ ap (λ (w : List ℕ). withValue w 0 (childless noValueKind)) a)) (no-value (length W) (length X) some)) in
+      (subst (λ (w : List ℕ). Stores w (replicate (length X) 0) 1 0 noValue [])
+      (sym (q .0 ∙ ap (λ (w : List ℕ). withValue w 0 (childless noValueKind)) a)) (no-value (length W) (length X) some)) in
       ap (λ (z : Parsed). outcomeOf z W″ X′) (q .1)
-      ∙ sym (ap (λ (n : ℕ). outcome n (length X) (accepted noValue 1 [])) (sym long) ∙ ap (λ (n : ℕ). outcome (length W″) n (accepted noValue 1 [])) (sym cleared-text) ∙ outcome-is stores)
+      ∙ sym (ap (λ (n : ℕ). outcome n (length X) (accepted noValue 1 [])) (sym long) ∙ ap (λ (n : ℕ). outcome (length W″) n (accepted noValue 1 []))
+      (sym cleared-text) ∙ outcome-is stores)
 
 -- Whether a record is lent.
 pub has-record : (W : List ℕ) {b : Bool} → b ≡ leb 1 (recordCount W) → b ≡ true → recordWidth ≤ length W

@@ -2,6 +2,3 @@ pub mod Outcomes
 pub mod Calls
 pub mod Growth
 pub mod Space
-pub mod Segments
-pub mod Progress
-pub mod Turns

@@ -1,13 +1,7 @@
 // The reader: the source's `parse` (src/de/parse.rs) of an input into lent records and text, equal to `reading` (specs/Outcomes).
-// Below it stand the scanning of the input (cursor), the commands on the tree that the records hold (tree), the records (records) and the
-// definitions (reading).
-mod bracket; // inside brackets: `parse_nested_key`
-mod clearing; // slices cleared
-mod commands; // the tree's commands on segments of the input
+// Below it stand the reading of the pairs (pairs), the records (records) and the definitions (reading).
+mod parser; // the parser that holds the input
 mod refusals; // the numbers of the refusals
-mod root; // the pairs of the input
-mod turning; // what is left of a pair once it is read
-mod value; // a value after a `=`
 
 ghost use mathlib.Core.Path.{_≡_};
 ghost use Prim.Native.Nat.{_≤_, _<_};
@@ -19,13 +13,14 @@ ghost use Rattle.records.specs.Records.{withValue};
 ghost use Rattle.records.specs.Adding.{childless};
 ghost use Rattle.parse.specs.declared.Parsed.the-variants.{Accepted};
 ghost use Rattle.parse.specs.Outcomes.{outcomeOf};
-use clearing::clear_text;
-use clearing::clear_words;
 use config::Config;
+use pairs::Turn;
+use pairs::parse_pairs;
+pub use parser::Parser;
+use records::clearing::clear_text;
+use records::clearing::clear_words;
 use records::store;
 use records::store::ValueWords;
-use root::parse_pairs;
-use turning::Turn;
 
 // The answer of a reading: accepted, with the records and the text bytes used; or refused, with document 01's number and place.
 pub enum Parsed {
@@ -75,9 +70,8 @@ fn parse_cleared(input: &[u8], config: Config, words: &mut [u32], text: &mut [u8
     parse_some(input, config, words, text)
 }
 
-// Reads the input into the lent words and text. Refusals 1 to 3 leave both unchanged, the later ones leave both zero; what an accepted reading
-// doesn't use is zero.
-pub fn parse(input: &[u8], config: Config, words: &mut [u32], text: &mut [u8]) -> Parsed
+// Reads the input unless refusals 1 to 3 stand against it, which leave words and text unchanged.
+fn parse_input(input: &[u8], config: Config, words: &mut [u32], text: &mut [u8]) -> Parsed
     ensures { λ r. ⌜ outcomeOf r (now (words .exit)) (now (text .exit)) ≡ reading config (now (input .entry)) (now (words .entry)) (now (text .entry)) ⌝ }
 {
     if Config::MAX_DEPTH < config.depth {
@@ -90,4 +84,12 @@ pub fn parse(input: &[u8], config: Config, words: &mut [u32], text: &mut [u8]) -
         return parse_cleared(input, config, words, text);
     }
     Parsed::Refused(refusals::NO_RECORD, 0)
+}
+
+// Reads the input into the lent words and text. Refusals 1 to 3 leave both unchanged, the later ones leave both zero; what an accepted reading
+// doesn't use is zero.
+pub fn parse(input: &[u8], config: Config, words: &mut [u32], text: &mut [u8]) -> Parsed
+    ensures { λ r. ⌜ outcomeOf r (now (words .exit)) (now (text .exit)) ≡ reading config (now (input .entry)) (now (words .entry)) (now (text .entry)) ⌝ }
+{
+    Parser::new(input).parse(config, words, text)
 }

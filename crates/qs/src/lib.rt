@@ -1,14 +1,17 @@
 // The functions exported to C and Rust, each a thin cover of a proved one; `rt staticlib qs` writes them to one archive.
-// A slice is passed as a pointer and the count of its elements. Below it stand the reader (parse), decode and utf8.
+// A slice is passed as a pointer and the count of its elements. Below it stand the reader (parse), field reads (de), decode and utf8.
 use config::Config;
+use de::DuplicateKeyBehavior;
+use de::FieldRead;
 use decode::Decoded;
 use parse::Parsed;
 ghost use mathlib.Core.Path.{_≡_};
 ghost use Rattle.decode.specs.Decoding.{answer, written};
 ghost use Rattle.utf8.specs.Test.{utf8};
 ghost use Rattle.reading.specs.Reading.{reading};
+ghost use Rattle.de.specs.Reads.{textRead, listRead};
 ghost use Rattle.qs.specs.Numbers.{lengthOrNo, oneOrZero};
-ghost use Rattle.qs.specs.Readings.{settings, resultIn};
+ghost use Rattle.qs.specs.Readings.{settings, behavior, resultIn};
 
 // What a reading answers: document 01's number, place, records used and text bytes used.
 #[repr(C)]
@@ -40,6 +43,27 @@ pub extern "C" fn qs_utf8(bytes: &[u8]) -> i32
     if utf8::is_utf8(bytes) { 1 } else { 0 }
 }
 
+// The settings for a depth and a form flag, off (0) or on (anything else).
+fn settings(depth: u32, form: u32) -> Config
+    ensures { λ r. ⌜ r ≡ settings depth form ⌝ }
+{
+    Config {
+        depth: depth as usize,
+        form: form != 0,
+    }
+}
+
+// What is made of several values where a text is asked for: 0 takes the last, anything else refuses them.
+fn behavior(duplicates: u32) -> DuplicateKeyBehavior
+    ensures { λ r. ⌜ r ≡ behavior duplicates ⌝ }
+{
+    if duplicates == 0 {
+        DuplicateKeyBehavior::TakeLast
+    } else {
+        DuplicateKeyBehavior::Error
+    }
+}
+
 // Reads `input` into lent `records`, eight words each, and `text`, at a depth and with the form flag off (0) or on (anything else). Refusals 1 to 3
 // leave both slices unchanged, the later ones leave them zero.
 #[no_mangle]
@@ -52,11 +76,7 @@ pub extern "C" fn qs_parse(
 ) -> Reading
     ensures { λ r. ⌜ resultIn r (now (records .exit)) (now (text .exit)) ≡ reading (settings depth form) (now (input .entry)) (now (records .entry)) (now (text .entry)) ⌝ }
 {
-    let config = Config {
-        depth: depth as usize,
-        form: form != 0,
-    };
-    match parse::parse(input, config, records, text) {
+    match parse::parse(input, settings(depth, form), records, text) {
         Parsed::Accepted(used, bytes) => Reading {
             number: 0,
             place: 0,
@@ -70,4 +90,43 @@ pub extern "C" fn qs_parse(
             bytes: 0,
         },
     }
+}
+
+// Reads `input` as `qs_parse` does, and then the root's field of that name as a text: its offset and length in `text`. Of several
+// values 0 takes the last, and anything else refuses them.
+#[no_mangle]
+pub extern "C" fn qs_text(
+    depth: u32,
+    form: u32,
+    duplicates: u32,
+    input: &[u8],
+    name: &[u8],
+    records: &mut [u32],
+    text: &mut [u8],
+) -> FieldRead
+    ensures { λ r. ⌜ record { answer = r; words = now (records .exit); text = now (text .exit) } ≡ textRead (settings depth form) (behavior duplicates) (now (input .entry)) (now (name .entry)) (now (records .entry)) (now (text .entry)) ⌝ }
+{
+    let config = settings(depth, form);
+    let duplicates = behavior(duplicates);
+    de::deserialize_str(input, name, config, duplicates, records, text)
+}
+
+// The same, of the field as a list: each element's offset and length are written to `list`, with zeros behind them. Refusals 1 to 3
+// leave it unchanged, the later ones leave it zero.
+#[no_mangle]
+pub extern "C" fn qs_list(
+    depth: u32,
+    form: u32,
+    duplicates: u32,
+    input: &[u8],
+    name: &[u8],
+    records: &mut [u32],
+    text: &mut [u8],
+    list: &mut [u32],
+) -> FieldRead
+    ensures { λ r. ⌜ record { read = record { answer = r; words = now (records .exit); text = now (text .exit) }; list = now (list .exit) } ≡ listRead (settings depth form) (behavior duplicates) (now (input .entry)) (now (name .entry)) (now (records .entry)) (now (text .entry)) (now (list .entry)) ⌝ }
+{
+    let config = settings(depth, form);
+    let duplicates = behavior(duplicates);
+    de::deserialize_seq(input, name, config, duplicates, records, text, list)
 }

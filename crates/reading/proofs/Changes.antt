@@ -7,7 +7,7 @@ use lib.ListN.{length}
 use Rattle.key.specs.Keys.{Key}
 use Rattle.reading.specs.Values.{Label, unkeyed, labelKey, Value, uninitialized, map, sequence, Forest, none, child}
 use Rattle.reading.specs.Leaves.{Leaf}
-use Rattle.reading.specs.KeyOrder.{compareKeys}
+use Rattle.key.specs.KeyOrder.{compareKeys}
 use Rattle.reading.specs.Charging.{Lent, Rule, over, bind}
 use Rattle.reading.specs.Adding.{expectMap, expectSequence, keyText, leafText, labelAt, valueAt, snoc, push, appendValue, insertUnique, enterKey, atPath}
 use Rattle.reading.specs.Scanning.{root, under, last, Command, skip, refuse, enter, needMap, needSequence, add}

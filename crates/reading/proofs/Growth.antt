@@ -92,7 +92,8 @@ module _ (config : Config) (lent more : Lent) (big : More lent more) where
   parsed-grows b s B =
       rw (tokens-split config (b ∷ s) B)
       (subst
-      (λ (end : ℕ). Grows end (run config lent (tokens config (b ∷ s)) 0 (rootKey []) uninitialized 1 []) (run config more (tokens config (b ∷ s) ++ (token ampersand 38 [] ∷ tokens config B)) 0 (rootKey []) uninitialized 1 []))
+      (λ (end : ℕ). Grows end (run config lent (tokens config (b ∷ s)) 0 (rootKey []) uninitialized 1 [])
+      (run config more (tokens config (b ∷ s) ++ (token ampersand 38 [] ∷ tokens config B)) 0 (rootKey []) uninitialized 1 []))
       (tokens-end config (b ∷ s) 0 ∙ omega arith) (run-grows-on (tokens config (b ∷ s)) (tokens config B) 0 (rootKey []) uninitialized 1 []))
 
 not-lasting : {x : Refusal} → Excused x → Lasting (code x) → ⊥
@@ -102,7 +103,8 @@ not-lasting (forSpace Lending.records) h = h .not14 refl
 not-lasting (forSpace Lending.text) h = h .not15 refl
 
 -- From the answers to the outcomes.
-grew : (n words bytes words′ bytes′ : ℕ) {lent more : Lent} {a c : Answer} → Grows (n + 1) a c → Ends (Sound lent) (λ x p. Numbered x) a → Ends (Sound more) (λ x p. Numbered x) c
+grew : (n words bytes words′ bytes′ : ℕ) {lent more : Lent} {a c : Answer} → Grows (n + 1) a c → Ends (Sound lent) (λ x p. Numbered x) a
+    → Ends (Sound more) (λ x p. Numbered x) c
     → Grew n (outcome words bytes a) (outcome words′ bytes′ c)
 grew n words bytes words′ bytes′ (both {v = v} {w = w} {n = i} {i = j} {t = t} {u = u} g) (accepts s) (accepts z) =
     record {

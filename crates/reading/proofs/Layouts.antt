@@ -91,7 +91,8 @@ values-some (map cs) = omega arith
 values-some (sequence cs) = omega arith
 
 mutual
-  value-back : (v : Value) (g : ℕ) (w t : List ℕ) (i : ℕ) (l : Label) (ds : Forest) → Row w i l v ds → Rows w v → Laid t v → 2 * values (plain v) ≤ g + 1 → treeAt g w t i ≡ plain v
+  value-back : (v : Value) (g : ℕ) (w t : List ℕ) (i : ℕ) (l : Label) (ds : Forest) → Row w i l v ds → Rows w v → Laid t v
+      → 2 * values (plain v) ≤ g + 1 → treeAt g w t i ≡ plain v
   value-back uninitialized zero w t i l ds r h z q = refl
   value-back uninitialized (suc g) w t i l ds r h z q = rw (r .w0)
   value-back null zero w t i l ds r h z q = absurd (omega arith)
@@ -109,7 +110,14 @@ mutual
   entries-back none g w t h z q = no-entries g w t
   entries-back (child m l v cs) zero w t h z q = absurd (omega (arith, values-some v))
   entries-back (child m l v cs) (suc g) w t h z q =
-      rw (ne-eqb m 0 (h .1), h .0 .w7, key-back w t m l v cs (h .0) (z .0), value-back v g w t m l cs (h .0) (h .2) (z .1) (omega arith), entries-back cs g w t (h .3) (z .2) (omega (arith, values-some v)))
+      rw (
+        ne-eqb m 0 (h .1),
+        h .0 .w7,
+        key-back w t m l v cs (h .0) (z .0),
+        value-back v g w t m l cs (h .0) (h .2) (z .1) (omega arith),
+        entries-back
+            cs g w t (h .3) (z .2) (omega (arith, values-some v)),
+      )
 
   elements-back : (cs : Forest) (g : ℕ) (w t : List ℕ) → RowsAll w cs → LaidAll t cs → 2 * elementValues (elements cs) ≤ g → elementsAt g w t (first cs) ≡ elements cs
   elements-back none g w t h z q = no-elements g w t

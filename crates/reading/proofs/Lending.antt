@@ -12,7 +12,7 @@ use Rattle.key.specs.Keys.{Key, str}
 use Rattle.reading.specs.Values.{unkeyed, labelKey, Value, uninitialized, null, noValue, string, map, sequence, Forest, none, child}
 use Rattle.reading.specs.Leaves.{Leaf}
 use Rattle.reading.specs.Refusals.{Refusal, tooFewRecords, tooLittleText}
-use Rattle.reading.specs.KeyOrder.{compareKeys, choose}
+use Rattle.key.specs.KeyOrder.{compareKeys, choose}
 use Rattle.reading.specs.Charging.{Lent, Made, made, refused, Rule, over, bind, charge}
 use Rattle.reading.specs.Adding.{expectMap, expectSequence, keyText, leafText, labelAt, valueAt, insertNew, enterNew, sequenceOfTwo, snoc, push, appendValue, appendEmptyKey, atEntry, insertUnique, unchanged, enterKey, noPath, atPath}
 use Rattle.reading.specs.Scanning.{root, under, last, Command, skip, refuse, enter, needMap, needSequence, add}

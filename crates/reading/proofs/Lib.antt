@@ -2,7 +2,7 @@ pub mod Results
 pub mod Rules
 pub mod Changes
 pub mod Runs
-pub mod Orders
+pub mod Labels
 pub mod Laying
 pub mod Adds
 pub mod Shaped

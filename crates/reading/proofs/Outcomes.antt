@@ -69,7 +69,8 @@ pub record Sound (lent : Lent) (v : Value) (n : ℕ) (t : List ℕ) : Type 0 whe
   pub within : Within lent n t
   pub decided : DecidedBelow v
 
-ends-sound : {lent : Lent} {a : Answer} → Ends Held (λ x p. Unit) a → Ends (λ v n t. Shaped v) (λ x p. Unit) a → Ends Risen (λ x p. Unit) a → Ends (λ v n t. Within lent n t) (λ x p. Unit) a
+ends-sound : {lent : Lent} {a : Answer} → Ends Held (λ x p. Unit) a → Ends (λ v n t. Shaped v) (λ x p. Unit) a → Ends Risen (λ x p. Unit) a
+    → Ends (λ v n t. Within lent n t) (λ x p. Unit) a
     → Ends (λ v n t. DecidedBelow v) (λ x p. Numbered x) a → Ends (Sound lent) (λ x p. Numbered x) a
 ends-sound (Ends.accepts h) (Ends.accepts s) (Ends.accepts r) (Ends.accepts w) (Ends.accepts d) =
     Ends.accepts (record { held = h; shaped = s; risen = r; within = w; decided = d })
@@ -77,7 +78,14 @@ ends-sound (refusesAt h) (refusesAt s) (refusesAt r) (refusesAt w) (refusesAt x)
 
 pub parsed-sound : (config : Config) (input : List ℕ) (lent : Lent) → 1 ≤ lent .records → Ends (Sound lent) (λ x p. Numbered x) (parsed config input lent)
 parsed-sound config [] lent h =
-    Ends.accepts (record { held = held-empty; shaped = tt; risen = record { some = omega arith; rising = tt }; within = record { records = h; bytes = omega arith }; decided = tt })
+    Ends.accepts (record {
+      held = held-empty;
+      shaped = tt;
+      risen = record { some = omega arith; rising = tt };
+      within = record
+          { records = h; bytes = omega arith };
+      decided = tt;
+    })
 parsed-sound config (b ∷ s) lent h =
     let ts = tokens config (b ∷ s) in
     ends-sound (run-keeps config lent Held (perform-held lent) ts 0 (rootKey []) uninitialized 1 [] held-start)

@@ -11,7 +11,7 @@ use Rattle.key.specs.Keys.{Key, keyOf}
 use Rattle.reading.specs.Values.{unkeyed, labelKey, Value, uninitialized, null, noValue, string, map, sequence, Forest, none, child}
 use Rattle.reading.specs.Leaves.{Leaf, valueOf}
 use Rattle.reading.specs.Refusals.{Refusal, code, noSuchPath}
-use Rattle.reading.specs.KeyOrder.{compareKeys, choose}
+use Rattle.key.specs.KeyOrder.{compareKeys, choose}
 use Rattle.reading.specs.Charging.{Lent, Made, made, refused, Rule, over, bind}
 use Rattle.reading.specs.Adding.{expectMap, expectSequence, keyText, leafText, labelAt, valueAt, enterNew, snoc, push, atEntry, insertUnique, unchanged, enterKey, noPath, atPath}
 use Rattle.reading.specs.Taking.{Symbol, ampersand, equals, opening, closing, other, Token}
@@ -20,7 +20,7 @@ use Rattle.reading.specs.Running.{perform, run}
 use Rattle.reading.specs.Shape.{Decided, DecidedAll, DecidedBelow}
 use Rattle.reading.proofs.Results.{Gives, gives, refuses, gives-over, gives-weaken, gives-charge}
 use Rattle.reading.proofs.Rules.{Unfit, onMap, onSingle, onSequence, onString, onNull, Adding, append-obeys, insert-obeys, push-obeys}
-use Rattle.reading.proofs.Orders.{compare-label}
+use Rattle.reading.proofs.Labels.{compare-label}
 use Rattle.reading.proofs.Runs.{Ends, run-ends}
 
 -- One of document 01's refusals 4 to 15.
@@ -166,7 +166,9 @@ enter-at-reach lent k none n t h = new-reach lent k none n t h
 enter-at-reach lent k (child m l v cs) n t h = go (compareKeys k (labelKey l)) refl (enter-at-reach lent k cs n t (h .1))
   where
     go : (o : Ordering) → compareKeys k (labelKey l) ≡ o → Becomes (ReachAmong k DecidedBelow) (atEntry k unchanged (enterNew lent k) cs n t)
-        → Becomes (ReachAmong k DecidedBelow) (choose o (enterNew lent k (child m l v cs) n t) (made (child m l v cs) n t) (over (child m l v) (atEntry k unchanged (enterNew lent k) cs n t)))
+        → Becomes (ReachAmong k DecidedBelow)
+        (choose o (enterNew lent k (child m l v cs) n t) (made (child m l v cs) n t)
+        (over (child m l v) (atEntry k unchanged (enterNew lent k) cs n t)))
     go Ordering·lt e further = new-reach lent k (child m l v cs) n t h
     go Ordering·eq e further = gives {a = child m l v cs} (rw e (decided-below v (h .0), h .1))
     go Ordering·gt e further = gives-over (child m l v) (λ ds i u d. rw e (h .0, d)) further
@@ -214,7 +216,8 @@ abbrev Reaches : Mode → Value → Type 0
 Reaches m v = Reach DecidedBelow (pathOf m) v
 
 module _ (config : Config) (lent : Lent) where
-  add-reach : (target : Target) (x : Leaf) (v : Value) (n : ℕ) (t : List ℕ) → Reach DecidedBelow (targetPath target) v → Becomes DecidedBelow (perform lent (add target x) v n t)
+  add-reach : (target : Target) (x : Leaf) (v : Value) (n : ℕ) (t : List ℕ) → Reach DecidedBelow (targetPath target) v
+      → Becomes DecidedBelow (perform lent (add target x) v n t)
   add-reach root x v n t h = gives-weaken (λ w i u d. decided-below w d) (append-obeys (adding lent x) v n t h)
   add-reach (under path key) x v n t h =
       gives-weaken (λ w i u d. decided-below w (reach-decided path w d))

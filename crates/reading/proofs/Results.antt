@@ -8,7 +8,7 @@ use borrow.Author.Tests.{ltb-true, ltb-false}
 use lib.Dec.{ltb}
 use lib.ListN.{length, length-append}
 use Rattle.reading.specs.Refusals.{Refusal, tooFewRecords, tooLittleText}
-use Rattle.reading.specs.KeyOrder.{choose}
+use Rattle.key.specs.KeyOrder.{choose}
 use Rattle.reading.specs.Charging.{Lent, Made, made, refused, over, charge}
 
 -- P of what is made and of the counts with it, R of a refusal.

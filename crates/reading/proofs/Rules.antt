@@ -7,7 +7,7 @@ use Rattle.key.specs.Keys.{Key, str}
 use Rattle.reading.specs.Values.{Label, labelKey, Value, uninitialized, null, noValue, string, map, sequence, Forest, none, child}
 use Rattle.reading.specs.Leaves.{Leaf}
 use Rattle.reading.specs.Refusals.{Refusal, sequenceOnMap, sequenceOnSingle, mapOnSequence, mapOnString, mapOnNull, noSuchPath}
-use Rattle.reading.specs.KeyOrder.{compareKeys, choose}
+use Rattle.key.specs.KeyOrder.{compareKeys, choose}
 use Rattle.reading.specs.Charging.{Lent, Made, made, refused, Rule, over, bind, charge}
 use Rattle.reading.specs.Adding.{expectMap, expectSequence, leafText, valueAt, insertNew, enterNew, sequenceOfTwo, push, appendValue, appendEmptyKey, atEntry, insertUnique, unchanged, enterKey, noPath, atPath}
 use Rattle.reading.specs.Shape.{SingleValue, isNull, isNoValue, isString}
@@ -161,5 +161,6 @@ pub append-at-entry : (lent : Lent) (leaf : Leaf) (cs : Forest) (n : ℕ) (t : L
 append-at-entry lent leaf none n t = refl
 append-at-entry lent leaf (child m l v cs) n t =
     ap
-    (λ r. choose (compareKeys (str []) (labelKey l)) (insertNew lent (str []) leaf (child m l v cs) n t) (over (λ w. child m l w cs) (appendValue lent leaf v n t)) (over (child m l v) r))
+    (λ r. choose (compareKeys (str []) (labelKey l)) (insertNew lent (str []) leaf (child m l v cs) n t)
+    (over (λ w. child m l w cs) (appendValue lent leaf v n t)) (over (child m l v) r))
     (append-at-entry lent leaf cs n t)

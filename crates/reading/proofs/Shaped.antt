@@ -6,7 +6,7 @@ use lib.ListN.{length}
 use Rattle.key.specs.Keys.{Key}
 use Rattle.reading.specs.Values.{Label, unkeyed, labelKey, Value, uninitialized, Forest, none, child}
 use Rattle.reading.specs.Leaves.{Leaf}
-use Rattle.reading.specs.KeyOrder.{compareKeys}
+use Rattle.key.specs.KeyOrder.{compareKeys}
 use Rattle.reading.specs.Charging.{Lent}
 use Rattle.reading.specs.Adding.{keyText, labelAt, valueAt, snoc, appendValue, atPath}
 use Rattle.reading.specs.Scanning.{Command}
@@ -15,7 +15,8 @@ use Rattle.reading.specs.Shape.{SingleValue, isNull, isNoValue, isString
 use Rattle.reading.proofs.Results.{All, gives-weaken}
 use Rattle.reading.proofs.Rules.{Fits}
 use Rattle.reading.proofs.Changes.{Changes, append-changes, at-path-changes, perform-changes}
-use Rattle.reading.proofs.Orders.{opposite, keys-turned, label-key, label-keyed}
+use Rattle.key.proofs.KeyOrders.{opposite, keys-turned}
+use Rattle.reading.proofs.Labels.{label-key, label-keyed}
 
 -- The children after a change at the key: in shape, and after whatever they were after if the key is too.
 record Placed (k : Key) (cs ds : Forest) : Type 0 where

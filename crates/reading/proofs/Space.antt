@@ -157,7 +157,8 @@ targetText (under path key) = length (keyText key)
 targetText (last path) = 0
 
 module _ (lent : Lent) where
-  add-pays : (target : Target) (leaf : Leaf) (v : Value) (n : ℕ) (t : List ℕ) → Pays lent (targetText target + length (leafText leaf)) (weight v + 1) n t (perform lent (add target leaf) v n t)
+  add-pays : (target : Target) (leaf : Leaf) (v : Value) (n : ℕ) (t : List ℕ)
+      → Pays lent (targetText target + length (leafText leaf)) (weight v + 1) n t (perform lent (add target leaf) v n t)
   add-pays root leaf = append-obeys (adding lent leaf (0 + length (leafText leaf)) (omega arith))
   add-pays (under path key) leaf =
       let a = adding lent leaf (length (keyText key) + length (leafText leaf)) (omega arith) in
@@ -230,7 +231,8 @@ module _ (config : Config) (lent : Lent) where
       gives-map (λ w a u h. record { records = omega (arith, h .records); bytes = omega (arith, h .bytes) }) (λ x h c d. h (omega arith) (omega arith))
       (enter-pays lent path key v n t)
 
-  opens-key : (b : Bool) (path : List Key) (level : ℕ) (opened s : List ℕ) (p : ℕ) (v : Value) (n : ℕ) (t : List ℕ) → 1 ≤ length s → Covered p (bracket path level opened) v n t
+  opens-key : (b : Bool) (path : List Key) (level : ℕ) (opened s : List ℕ) (p : ℕ) (v : Value) (n : ℕ) (t : List ℕ) → 1 ≤ length s
+      → Covered p (bracket path level opened) v n t
       → Goes p (p + length s) (cond b (keyBelowDepth path level s) (keyAtDepth path (opened ++ s))) (perform lent (needMap path) v n t)
   opens-key true path level opened s p v n t j h =
       gives-map (λ w a u g. record { records = omega (arith, g .records, h .records); bytes = omega (arith, g .bytes, h .bytes) })
@@ -247,7 +249,8 @@ module _ (config : Config) (lent : Lent) where
   -- At the end, or an `&` outside of brackets.
   pub finish-covered : (m : Mode) (p q : ℕ) (v : Value) (n : ℕ) (t : List ℕ) → p < q → Covered p m v n t → Goes p q (rootKey []) (perform lent (finish config m) v n t)
   finish-covered (rootKey []) p q v n t j h = gives {a = v} {n = n} {t = t} (record { records = omega (arith, h .records); bytes = omega (arith, h .bytes) })
-  finish-covered (rootKey (b ∷ s)) p q v n t j h = adds (under [] (keyOf config (b ∷ s))) Leaf.noValue p q v n t j (h .records) (omega (arith, h .bytes, key-le config (b ∷ s)))
+  finish-covered (rootKey (b ∷ s)) p q v n t j h = adds (under [] (keyOf config (b ∷ s))) Leaf.noValue p q v n t j (h .records)
+      (omega (arith, h .bytes, key-le config (b ∷ s)))
   finish-covered (value target s) p q v n t j h = adds target (valueOf s) p q v n t j (h .records) (omega (arith, h .bytes, value-le s))
   finish-covered (bracket path level opened) p q v n t j h = refuses (λ c d. tt)
   finish-covered (keyBelowDepth path level s) p q v n t j h = refuses (λ c d. tt)
@@ -256,7 +259,8 @@ module _ (config : Config) (lent : Lent) where
   finish-covered (afterKey path level key) p q v n t j h = adds (under path key) Leaf.noValue p q v n t j (omega (arith, h .records, weight-le v)) (omega (arith, h .bytes))
   finish-covered (afterBrackets path) p q v n t j h = adds (last path) Leaf.noValue p q v n t j (omega (arith, h .records, weight-le v)) (omega (arith, h .bytes))
 
-  lengthens : (s : List ℕ) (b : ℕ) (r : List ℕ) (p : ℕ) (v : Value) (n : ℕ) (t : List ℕ) → Covered p (rootKey s) v n t → Goes p (p + length (b ∷ r)) (rootKey (s ++ (b ∷ r))) (made v n t)
+  lengthens : (s : List ℕ) (b : ℕ) (r : List ℕ) (p : ℕ) (v : Value) (n : ℕ) (t : List ℕ) → Covered p (rootKey s) v n t
+      → Goes p (p + length (b ∷ r)) (rootKey (s ++ (b ∷ r))) (made v n t)
   lengthens [] b r p v n t h = skips (length (b ∷ r)) (rootKey (b ∷ r)) h (omega arith) (omega arith)
   lengthens (c ∷ s) b r p v n t h =
       skips (length (b ∷ r)) (rootKey ((c ∷ s) ++ (b ∷ r))) h (omega arith) (omega (arith, length-append (c ∷ s) (b ∷ r)))
@@ -265,7 +269,8 @@ module _ (config : Config) (lent : Lent) where
       → Goes p (p + length (b ∷ r)) ((step config m y (b ∷ r)) .next) (perform lent ((step config m y (b ∷ r)) .command) v n t)
   step-covered (rootKey s) ampersand b r p v n t h = finish-covered (rootKey s) p (p + length (b ∷ r)) v n t (omega arith) h
   step-covered (rootKey []) equals b r p v n t h = skips (length (b ∷ r)) (value root []) h (omega arith) (omega arith)
-  step-covered (rootKey (c ∷ s)) equals b r p v n t h = skips (length (b ∷ r)) (value (under [] (keyOf config (c ∷ s))) []) h (omega arith) (omega (arith, key-le config (c ∷ s)))
+  step-covered (rootKey (c ∷ s)) equals b r p v n t h = skips (length (b ∷ r)) (value (under [] (keyOf config (c ∷ s))) []) h (omega arith)
+      (omega (arith, key-le config (c ∷ s)))
   step-covered (rootKey []) opening b r p v n t h =
       nests (eqb (config .depth) 0) skip (bracket [] 0 (b ∷ r)) (b ∷ r) p (p + length (b ∷ r)) v n t
       (lengthens [] b r p v n t h)
@@ -273,7 +278,8 @@ module _ (config : Config) (lent : Lent) where
   step-covered (rootKey (c ∷ s)) opening b r p v n t h =
       nests (eqb (config .depth) 0) (Command.enter [] (keyOf config (c ∷ s))) (bracket (keyOf config (c ∷ s) ∷ []) 0 (b ∷ r)) ((c ∷ s) ++ (b ∷ r)) p (p + length (b ∷ r)) v n t
       (lengthens (c ∷ s) b r p v n t h)
-      (enters [] (keyOf config (c ∷ s)) (keyOf config (c ∷ s) ∷ []) 0 (b ∷ r) p v n t (omega (arith, h .records)) (omega (arith, h .bytes, key-le config (c ∷ s))) (omega arith))
+      (enters [] (keyOf config (c ∷ s)) (keyOf config (c ∷ s) ∷ []) 0 (b ∷ r) p v n t (omega (arith, h .records))
+      (omega (arith, h .bytes, key-le config (c ∷ s))) (omega arith))
   step-covered (rootKey s) closing b r p v n t h = lengthens s b r p v n t h
   step-covered (rootKey s) other b r p v n t h = lengthens s b r p v n t h
   step-covered (value target s) ampersand b r p v n t h = finish-covered (value target s) p (p + length (b ∷ r)) v n t (omega arith) h
@@ -288,19 +294,26 @@ module _ (config : Config) (lent : Lent) where
       gives-map (λ w a u g. record { records = omega (arith, g .records, h .records); bytes = omega (arith, g .bytes, h .bytes) })
       (λ x g c d. g (omega (arith, h .records)) (omega (arith, h .bytes))) (sequence-pays lent path v n t)
   step-covered (bracket path level opened) other b r p v n t h = opens-key (ltb level (config .depth)) path level opened (b ∷ r) p v n t (omega arith) h
-  step-covered (keyBelowDepth path level s) ampersand b r p v n t h = skips (length (b ∷ r)) (keyBelowDepth path level (s ++ (b ∷ r))) h (omega arith) (omega (arith, length-append s (b ∷ r)))
-  step-covered (keyBelowDepth path level s) equals b r p v n t h = skips (length (b ∷ r)) (keyBelowDepth path level (s ++ (b ∷ r))) h (omega arith) (omega (arith, length-append s (b ∷ r)))
-  step-covered (keyBelowDepth path level s) opening b r p v n t h = skips (length (b ∷ r)) (keyBelowDepth path level (s ++ (b ∷ r))) h (omega arith) (omega (arith, length-append s (b ∷ r)))
-  step-covered (keyBelowDepth path level s) closing b r p v n t h = skips (length (b ∷ r)) (afterKey path level (keyOf config s)) h (omega arith) (omega (arith, key-le config s))
-  step-covered (keyBelowDepth path level s) other b r p v n t h = skips (length (b ∷ r)) (keyBelowDepth path level (s ++ (b ∷ r))) h (omega arith) (omega (arith, length-append s (b ∷ r)))
+  step-covered (keyBelowDepth path level s) ampersand b r p v n t h = skips (length (b ∷ r)) (keyBelowDepth path level (s ++ (b ∷ r))) h (omega arith)
+      (omega (arith, length-append s (b ∷ r)))
+  step-covered (keyBelowDepth path level s) equals b r p v n t h = skips (length (b ∷ r)) (keyBelowDepth path level (s ++ (b ∷ r))) h (omega arith)
+      (omega (arith, length-append s (b ∷ r)))
+  step-covered (keyBelowDepth path level s) opening b r p v n t h = skips (length (b ∷ r)) (keyBelowDepth path level (s ++ (b ∷ r))) h (omega arith)
+      (omega (arith, length-append s (b ∷ r)))
+  step-covered (keyBelowDepth path level s) closing b r p v n t h = skips (length (b ∷ r)) (afterKey path level (keyOf config s)) h (omega arith)
+      (omega (arith, key-le config s))
+  step-covered (keyBelowDepth path level s) other b r p v n t h = skips (length (b ∷ r)) (keyBelowDepth path level (s ++ (b ∷ r))) h (omega arith)
+      (omega (arith, length-append s (b ∷ r)))
   step-covered (keyAtDepth path s) ampersand b r p v n t h = finish-covered (keyAtDepth path s) p (p + length (b ∷ r)) v n t (omega arith) h
-  step-covered (keyAtDepth path s) equals b r p v n t h = skips (length (b ∷ r)) (value (under path (keyOf config s)) []) h (omega (arith, weight-le v)) (omega (arith, key-le config s))
+  step-covered (keyAtDepth path s) equals b r p v n t h = skips (length (b ∷ r)) (value (under path (keyOf config s)) []) h
+      (omega (arith, weight-le v)) (omega (arith, key-le config s))
   step-covered (keyAtDepth path s) opening b r p v n t h = skips (length (b ∷ r)) (keyAtDepth path (s ++ (b ∷ r))) h (omega arith) (omega (arith, length-append s (b ∷ r)))
   step-covered (keyAtDepth path s) closing b r p v n t h = skips (length (b ∷ r)) (keyAtDepth path (s ++ (b ∷ r))) h (omega arith) (omega (arith, length-append s (b ∷ r)))
   step-covered (keyAtDepth path s) other b r p v n t h = skips (length (b ∷ r)) (keyAtDepth path (s ++ (b ∷ r))) h (omega arith) (omega (arith, length-append s (b ∷ r)))
   step-covered (afterKey path level key) ampersand b r p v n t h = finish-covered (afterKey path level key) p (p + length (b ∷ r)) v n t (omega arith) h
   step-covered (afterKey path level key) equals b r p v n t h = skips (length (b ∷ r)) (value (under path key) []) h (omega (arith, weight-le v)) (omega arith)
-  step-covered (afterKey path level key) opening b r p v n t h = enters path key (path ++ (key ∷ [])) (level + 1) (b ∷ r) p v n t (omega (arith, h .records)) (h .bytes) (omega arith)
+  step-covered (afterKey path level key) opening b r p v n t h = enters path key (path ++ (key ∷ [])) (level + 1) (b ∷ r) p v n t
+      (omega (arith, h .records)) (h .bytes) (omega arith)
   step-covered (afterKey path level key) closing b r p v n t h = refuses (λ c d. tt)
   step-covered (afterKey path level key) other b r p v n t h = refuses (λ c d. tt)
   step-covered (afterBrackets path) ampersand b r p v n t h = finish-covered (afterBrackets path) p (p + length (b ∷ r)) v n t (omega arith) h

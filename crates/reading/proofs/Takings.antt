@@ -49,7 +49,8 @@ pub tokens-split : (config : Config) (a b : List ℕ) → tokens config (a ++ (3
 tokens-split config a b = go (config .form)
   where
     go : (f : Bool)
-        → cond f (formTokens (a ++ (38 ∷ b))) (byteTokens (a ++ (38 ∷ b))) ≡ cond f (formTokens a) (byteTokens a) ++ (token ampersand 38 [] ∷ cond f (formTokens b) (byteTokens b))
+        → cond f (formTokens (a ++ (38 ∷ b))) (byteTokens (a ++ (38 ∷ b))) ≡ cond f (formTokens a) (byteTokens a) ++
+        (token ampersand 38 [] ∷ cond f (formTokens b) (byteTokens b))
     go true = form-split a b
     go false = bytes-split a b
 

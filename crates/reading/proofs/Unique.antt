@@ -4,14 +4,14 @@ use mathlib.Core.Path.{_≡_, sym, _∙_}
 use lib.ListN.{length}
 use Rattle.key.specs.Keys.{Key}
 use Rattle.reading.specs.Values.{Label, labelKey, Value, uninitialized, null, noValue, string, map, sequence, Forest, none, child}
-use Rattle.reading.specs.KeyOrder.{compareKeys}
+use Rattle.key.specs.KeyOrder.{compareKeys}
 use Rattle.reading.specs.Running.{Answer, Accepts, accepts}
 use Rattle.reading.specs.Trees.{Tree, plain, entries}
 use Rattle.reading.specs.Buffers.{treeIn}
 use Rattle.reading.specs.Keeping.{Has, here, further}
 use Rattle.reading.specs.Shape.{Before, Shaped, ShapedMap}
 use Rattle.reading.specs.UniqueKeys.{Unique, UniqueAll, UniqueKeys}
-use Rattle.reading.proofs.Orders.{eq-not-lt, keys-trans, keys-same}
+use Rattle.key.proofs.KeyOrders.{eq-not-lt, keys-trans, keys-same}
 use Rattle.reading.proofs.Outcomes.{of-accepted, outcome-tree}
 
 before-later : (l b : Label) (cs : Forest) → compareKeys (labelKey l) (labelKey b) ≡ Ordering·lt → Before b cs → Before l cs

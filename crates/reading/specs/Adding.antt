@@ -6,7 +6,7 @@ use Rattle.key.specs.Keys.{Key, int, str}
 use Rattle.reading.specs.Values.{Label, unkeyed, intKey, stringKey, labelKey, Value, uninitialized, null, noValue, string, map, sequence, Forest, none, child}
 use Rattle.reading.specs.Leaves.{Leaf}
 use Rattle.reading.specs.Refusals.{sequenceOnMap, sequenceOnSingle, mapOnSequence, mapOnString, mapOnNull, noSuchPath}
-use Rattle.reading.specs.KeyOrder.{compareKeys, choose}
+use Rattle.key.specs.KeyOrder.{compareKeys, choose}
 use Rattle.reading.specs.Charging.{Lent, Made, made, refused, Rule, over, bind, charge}
 
 -- "Needing a map: Uninitialized becomes Map, a Map serves, the rest refuse (8, 9, 10)." `expect_map` of the source; here the children of

@@ -1,7 +1,6 @@
 pub mod Values
 pub mod Leaves
 pub mod Refusals
-pub mod KeyOrder
 pub mod Charging
 pub mod Adding
 pub mod Taking

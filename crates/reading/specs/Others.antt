@@ -75,7 +75,9 @@ others =
     test (atDepth 0) 48 12 "a[b]=1" (holds (row 1 0 0 0 0 0 1 0 ∷ row 3 2 0 4 4 1 0 0 ∷ []) "a[b]1") ∷
     -- Numbers and siblings: a value that moves into a Sequence; keys in key order, the empty one between Ints and other Strings.
     usual "a=1&b=2&a=3" (holds (row 1 0 0 0 0 0 1 0 ∷ row 2 2 0 1 0 0 3 2 ∷ row 3 2 2 1 3 1 0 0 ∷ row 3 0 0 0 1 1 0 4 ∷ row 3 0 0 0 4 1 0 0 ∷ []) "a1b23") ∷
-    test defaults 64 12 "b=1&a=2&0=3&b=4&b=5" (holds (row 1 0 0 0 0 0 3 0 ∷ row 2 2 0 1 0 0 4 0 ∷ row 3 2 2 1 3 1 0 1 ∷ row 3 1 0 0 4 1 0 2 ∷ row 3 0 0 0 1 1 0 5 ∷ row 3 0 0 0 5 1 0 6 ∷ row 3 0 0 0 6 1 0 0 ∷ []) "b1a2345") ∷
+    test defaults 64 12 "b=1&a=2&0=3&b=4&b=5"
+    (holds (row 1 0 0 0 0 0 3 0 ∷ row 2 2 0 1 0 0 4 0 ∷ row 3 2 2 1 3 1 0 1 ∷ row 3 1 0 0 4 1 0 2 ∷ row 3 0 0 0 1 1 0 5 ∷ row 3 0 0 0 5 1 0
+    6 ∷ row 3 0 0 0 6 1 0 0 ∷ []) "b1a2345") ∷
     usual "[b]=1&[0]=2&=3" (holds (row 1 0 0 0 0 0 2 0 ∷ row 3 2 0 1 1 1 0 0 ∷ row 3 1 0 0 2 1 0 3 ∷ row 3 2 0 0 3 1 0 1 ∷ []) "b123") ∷
     usual "[x]=1&[]=2" (refuses 6 8) ∷
     usual "[]=1&=2&a" (refuses 8 10) ∷

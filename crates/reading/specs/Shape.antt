@@ -5,7 +5,7 @@ use mathlib.Core.Path.{_≡_}
 use mathlib.Core.List.{List}
 use Rattle.config.specs.declared.Config.{Config}
 use Rattle.reading.specs.Values.{Label, unkeyed, intKey, stringKey, labelKey, Value, uninitialized, null, noValue, string, map, sequence, Forest, none, child}
-use Rattle.reading.specs.KeyOrder.{compareKeys}
+use Rattle.key.specs.KeyOrder.{compareKeys}
 use Rattle.reading.specs.Running.{Accepts}
 use Rattle.reading.specs.Reading.{lentBy, parsed, reading}
 

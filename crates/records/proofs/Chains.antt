@@ -2,14 +2,15 @@
 use mathlib.Core.Path.{_≡_, refl, ap, sym, _∙_}
 use mathlib.Core.Logic.{_≢_}
 use mathlib.Core.List.{List, [], _∷_}
-use Prim.Native.Nat.{ℕ, zero, suc, _<_}
+use Prim.Native.Nat.{ℕ, zero, suc, _<_, Ordering, Ordering·lt, Ordering·eq, Ordering·gt}
 use native.Mathlib.Omega.{arith}
 use lib.ListN.{length}
-use Rattle.records.specs.declared.keys.Ordering.{Ordering}
+use Rattle.records.specs.declared.keys.Ordering.{Ordering as KeyOrdering}
 use Rattle.records.specs.declared.keys.Ordering.the-variants.{Less, Equal, Greater}
 use Rattle.records.specs.declared.siblings.Place.the-variants.{Found, Between}
 use Rattle.records.specs.Words.{childWord, nextWord}
 use Rattle.records.specs.Store.{recordCount, word}
+use Rattle.records.specs.Order.{orderingOf}
 use Rattle.records.specs.Siblings.{chain, children, lastOf, seek, Within, Ends, Linked}
 
 pub chain-end : (ws : List ℕ) (f : ℕ) → chain ws f 0 ≡ []
@@ -58,18 +59,18 @@ module _ {stands : ℕ → Ordering} {ws : List ℕ} {before start prev cur : �
     on = rw (step ws (v .ends) n) at (v .so-far)
 
     -- By the answer o of `compare_key`.
-    module _ {o : Ordering} (e : o ≡ stands cur) where
+    module _ {o : KeyOrdering} (e : orderingOf o ≡ stands cur) where
       pub walking-on : o ≡ Less → Walking stands ws before start cur (word ws cur nextWord)
       unfolding seek
-      walking-on f = record { ends = ends-next ws (v .ends) n; so-far = rw (sym e ∙ f) at on }
+      walking-on f = record { ends = ends-next ws (v .ends) n; so-far = rw (sym e ∙ ap orderingOf f) at on }
 
       pub walking-found : o ≡ Equal → Found cur ≡ seek stands before (chain ws (recordCount ws) start)
       unfolding seek
-      walking-found f = rw (sym e ∙ f) at on
+      walking-found f = rw (sym e ∙ ap orderingOf f) at on
 
       pub walking-past : o ≡ Greater → Between prev cur ≡ seek stands before (chain ws (recordCount ws) start)
       unfolding seek
-      walking-past f = rw (sym e ∙ f) at on
+      walking-past f = rw (sym e ∙ ap orderingOf f) at on
 
   pub walking-end : cur ≡ 0 → Between prev 0 ≡ seek stands before (chain ws (recordCount ws) start)
   unfolding seek
@@ -117,9 +118,9 @@ found-within stands lo hi prev m [] e h = never-both m prev 0 (sym e)
 found-within stands lo hi prev m (k ∷ ms) e h = go (stands k) refl (found-within stands lo hi k m ms)
   where
     go : (o : Ordering) → stands k ≡ o → (seek stands k ms ≡ Found m → Within lo hi ms → (lo < m) × (m < hi)) → (lo < m) × (m < hi)
-    go Less q ih = ih (rw q at e) (h .2)
-    go Equal q ih = let f : Found k ≡ Found m = rw q at e in let g : k ≡ m = cc in rw (← g) (h .0, h .1)
-    go Greater q ih = never-both m prev k (sym (rw q at e))
+    go Ordering·lt q ih = ih (rw q at e) (h .2)
+    go Ordering·eq q ih = let f : Found k ≡ Found m = rw q at e in let g : k ≡ m = cc in rw (← g) (h .0, h .1)
+    go Ordering·gt q ih = never-both m prev k (sym (rw q at e))
 
 pub between-within : (stands : ℕ → Ordering) (lo hi prev p x : ℕ) (ms : List ℕ) → seek stands prev ms ≡ Between p x → prev < hi → Within lo hi ms → p < hi
 unfolding seek
@@ -127,6 +128,6 @@ between-within stands lo hi prev p x [] e l h = let g : prev ≡ p = cc in rw (�
 between-within stands lo hi prev p x (k ∷ ms) e l h = go (stands k) refl (between-within stands lo hi k p x ms)
   where
     go : (o : Ordering) → stands k ≡ o → (seek stands k ms ≡ Between p x → k < hi → Within lo hi ms → p < hi) → p < hi
-    go Less q ih = ih (rw q at e) (h .1) (h .2)
-    go Equal q ih = never-both k p x (rw q at e)
-    go Greater q ih = let f : Between prev k ≡ Between p x = rw q at e in let g : prev ≡ p = cc in rw (← g) l
+    go Ordering·lt q ih = ih (rw q at e) (h .1) (h .2)
+    go Ordering·eq q ih = never-both k p x (rw q at e)
+    go Ordering·gt q ih = let f : Between prev k ≡ Between p x = rw q at e in let g : prev ≡ p = cc in rw (← g) l

@@ -3,22 +3,22 @@ use mathlib.Core.Path.{_≡_, ap, sym, _∙_}
 use mathlib.Core.Logic.{_≢_}
 use mathlib.Core.Bool.{true, false}
 use mathlib.Core.List.{List}
-use Prim.Native.Nat.{ℕ, _+_, _-_, _≤_, _<_}
+use Prim.Native.Nat.{ℕ, _+_, _-_, _≤_, _<_, compare, Ordering·lt, Ordering·eq, Ordering·gt}
 use native.Mathlib.Nat.{add-sub-cancel-left}
 use native.Mathlib.Omega.{arith}
-use borrow.Author.Tests.{lt-ltb, le-ltb, eq-eqb, ne-eqb}
+use borrow.Author.Tests.{eq-eqb, ne-eqb}
 use lib.Dec.{eqb}
 use lib.ListN.{length, take, drop, getD, drop-of-length-le}
 use Rattle.laws.proofs.Lists.{drop-1}
 use Rattle.decode.specs.Decoding.{decoded}
 use Rattle.decode.specs.Stepping.{rest, Yields}
 use Rattle.decode.proofs.Steps.{rest-zero, rest-done}
-use Rattle.records.specs.declared.keys.Ordering.the-variants.{Less, Equal, Greater}
+use Rattle.key.specs.KeyOrder.{compareBytes, compareKeys, andThen}
+use Rattle.key.proofs.KeyOrders.{compare-less, compare-greater, compare-equal}
 use Rattle.records.specs.declared.keys.Sought.the-variants.{Int, String}
 use Rattle.records.specs.Words.{keyKindWord, keyWord, keyLengthWord, intKeyKind}
 use Rattle.records.specs.Store.{word}
 use Rattle.records.specs.Records.{keyWordsAt}
-use Rattle.records.specs.Order.{compareNumbers, compareBytes, compareKeys, andThen}
 use Rattle.records.specs.Keys.{storedKey, keyAt, InText, soughtKey}
 
 -- The loop of `compare_bytes`: what is left to be compared gives the whole answer.
@@ -31,32 +31,28 @@ pub comparing-start : (bytes raw : List ℕ) → Comparing bytes raw 0 0 0
 comparing-start bytes raw = record { inside = omega arith; within = omega arith; so-far = ap (compareBytes bytes) (rest-zero raw) }
 
 module _ {bytes raw : List ℕ} {i j k : ℕ} (v : Comparing bytes raw i j k) where
-  pub bytes-left : length raw ≤ j → i < length bytes → Greater ≡ compareBytes bytes (decoded raw)
-  unfolding compareBytes
+  pub bytes-left : length raw ≤ j → i < length bytes → Ordering·gt ≡ compareBytes bytes (decoded raw)
   bytes-left h l = rw (rest-done k j raw h, drop-1 bytes i l) at (v .so-far)
 
-  pub none-left : length raw ≤ j → length bytes ≤ i → Equal ≡ compareBytes bytes (decoded raw)
-  unfolding compareBytes
+  pub none-left : length raw ≤ j → length bytes ≤ i → Ordering·eq ≡ compareBytes bytes (decoded raw)
   none-left h l = rw (rest-done k j raw h, drop-of-length-le bytes l) at (v .so-far)
 
   module _ {b j' k' : ℕ} (s : Yields raw j k b j' k') where
-    pub raw-left : length bytes ≤ i → Less ≡ compareBytes bytes (decoded raw)
-    unfolding compareBytes
+    pub raw-left : length bytes ≤ i → Ordering·lt ≡ compareBytes bytes (decoded raw)
     raw-left l = rw (s .yields, drop-of-length-le bytes l) at (v .so-far)
 
     module _ (l : i < length bytes) where
-      here : andThen (compareNumbers (getD bytes i 0) b) (compareBytes (drop (i + 1) bytes) (rest k' (drop j' raw))) ≡ compareBytes bytes (decoded raw)
-      unfolding compareBytes
+      here : andThen (compare (getD bytes i 0) b) (compareBytes (drop (i + 1) bytes) (rest k' (drop j' raw))) ≡ compareBytes bytes (decoded raw)
       here = rw (s .yields, drop-1 bytes i l) at (v .so-far)
 
-      pub byte-less : getD bytes i 0 < b → Less ≡ compareBytes bytes (decoded raw)
-      byte-less h = simp (lt-ltb _ _ h) at here
+      pub byte-less : getD bytes i 0 < b → Ordering·lt ≡ compareBytes bytes (decoded raw)
+      byte-less h = simp (compare-less _ _ h) at here
 
-      pub byte-greater : b < getD bytes i 0 → Greater ≡ compareBytes bytes (decoded raw)
-      byte-greater h = simp (le-ltb (getD bytes i 0) b (omega arith), lt-ltb _ _ h) at here
+      pub byte-greater : b < getD bytes i 0 → Ordering·gt ≡ compareBytes bytes (decoded raw)
+      byte-greater h = simp (compare-greater _ _ h) at here
 
       pub byte-equal : b ≤ getD bytes i 0 → getD bytes i 0 ≤ b → Comparing bytes raw (i + 1) j' k'
-      byte-equal g h = record { inside = omega arith; within = s .within; so-far = simp (le-ltb _ _ g, le-ltb _ _ h) at here }
+      byte-equal g h = record { inside = omega arith; within = s .within; so-far = simp (compare-equal _ _ h g) at here }
 
 -- The four cases of `compare_key`, by the kind of the record's key and that of the one looked for.
 module _ (ws text : List ℕ) (n : ℕ) (raw : List ℕ) {kind : ℕ} (e : kind ≡ word ws n keyKindWord) where
@@ -66,16 +62,16 @@ module _ (ws text : List ℕ) (n : ℕ) (raw : List ℕ) {kind : ℕ} (e : kind 
   is-string : kind ≢ intKeyKind → eqb (word ws n keyKindWord) intKeyKind ≡ false
   is-string h = ne-eqb (word ws n keyKindWord) intKeyKind (λ q. h (e ∙ q))
 
-  pub int-int : {x : ℕ} (i : ℕ) → kind ≡ intKeyKind → x ≡ word ws n keyWord → compareNumbers x i ≡ compareKeys (keyAt ws text n) (soughtKey (Int i) raw)
-  unfolding compareKeys keyWordsAt storedKey soughtKey
+  pub int-int : {x : ℕ} (i : ℕ) → kind ≡ intKeyKind → x ≡ word ws n keyWord → compare x i ≡ compareKeys (keyAt ws text n) (soughtKey (Int i) raw)
+  unfolding keyWordsAt storedKey soughtKey
   int-int i h q = simp (is-int h, q)
 
-  pub string-int : (i : ℕ) → kind ≢ intKeyKind → Greater ≡ compareKeys (keyAt ws text n) (soughtKey (Int i) raw)
-  unfolding compareKeys keyWordsAt storedKey soughtKey
+  pub string-int : (i : ℕ) → kind ≢ intKeyKind → Ordering·gt ≡ compareKeys (keyAt ws text n) (soughtKey (Int i) raw)
+  unfolding keyWordsAt storedKey soughtKey
   string-int i h = simp (is-string h)
 
-  pub int-string : kind ≡ intKeyKind → Less ≡ compareKeys (keyAt ws text n) (soughtKey String raw)
-  unfolding compareKeys keyWordsAt storedKey soughtKey
+  pub int-string : kind ≡ intKeyKind → Ordering·lt ≡ compareKeys (keyAt ws text n) (soughtKey String raw)
+  unfolding keyWordsAt storedKey soughtKey
   int-string h = simp (is-int h)
 
   -- A String is the part of the text that is compared.
@@ -85,5 +81,5 @@ module _ (ws text : List ℕ) (n : ℕ) (raw : List ℕ) {kind : ℕ} (e : kind 
     string-inside i = omega (arith, i (λ z. h (e ∙ z)))
 
     pub string-string : compareBytes (take (start + len - start) (drop start text)) (decoded raw) ≡ compareKeys (keyAt ws text n) (soughtKey String raw)
-    unfolding compareKeys keyWordsAt storedKey soughtKey
+    unfolding keyWordsAt storedKey soughtKey
     string-string = simp (is-string h, add-sub-cancel-left, p, q)

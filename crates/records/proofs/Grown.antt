@@ -3,14 +3,12 @@ use mathlib.Core.Path.{_≡_, refl, ap, sym, _∙_, subst}
 use mathlib.Core.Logic.{_≢_, ⊎-elim}
 use mathlib.Core.Bool.{cond}
 use mathlib.Core.List.{List}
-use Prim.Native.Nat.{ℕ, _+_, _≤_, _<_}
+use Prim.Native.Nat.{ℕ, _+_, _≤_, _<_, Ordering, Ordering·lt, Ordering·eq, Ordering·gt}
 use native.Mathlib.Omega.{arith}
 use native.Mathlib.Decide.{ℕ-discrete}
 use borrow.Author.Tests.{eq-eqb, ne-eqb}
 use lib.Dec.{eqb}
 use Rattle.config.specs.Limits.{recordWidth}
-use Rattle.records.specs.declared.keys.Ordering.{Ordering}
-use Rattle.records.specs.declared.keys.Ordering.the-variants.{Less, Equal, Greater}
 use Rattle.records.specs.declared.siblings.Place.the-variants.{Between}
 use Rattle.records.specs.declared.store.Record.{Record}
 use Rattle.records.specs.Words.{childWord, nextWord}
@@ -50,9 +48,9 @@ module _ (stands : Record → Ordering) (u : ℕ) (new : Record) where
     where
       go : (o : Ordering) → stands r ≡ o → (seekNode stands n s ≡ Between p x → size (insertNode stands u new s) ≡ size s + 1)
           → size (insertNode stands u new (node n r c s)) ≡ size (node n r c s) + 1
-      go Less q ih = rw q (omega (arith, ih (rw q at e)))
-      go Equal q ih = never-both n p x (rw q at e)
-      go Greater q ih = rw q (omega arith)
+      go Ordering·lt q ih = rw q (omega (arith, ih (rw q at e)))
+      go Ordering·eq q ih = never-both n p x (rw q at e)
+      go Ordering·gt q ih = rw q (omega arith)
 
   rising-insert : (f : Nodes) (prev p x : ℕ) → seekNode stands prev f ≡ Between p x → Rising f → Rising (insertNode stands u new f)
   rising-insert nil prev p x e k = (λ m g. absurd (omega arith), tt, tt)
@@ -60,9 +58,9 @@ module _ (stands : Record → Ordering) (u : ℕ) (new : Record) where
     where
       go : (o : Ordering) → stands r ≡ o → (seekNode stands n s ≡ Between p x → Rising s → Rising (insertNode stands u new s))
           → Rising (insertNode stands u new (node n r c s))
-      go Less q ih = rw q (k .0, k .1, ih (rw q at e) (k .2))
-      go Equal q ih = never-both n p x (rw q at e)
-      go Greater q ih = rw q ((λ m g. absurd (omega arith)), tt, k)
+      go Ordering·lt q ih = rw q (k .0, k .1, ih (rw q at e) (k .2))
+      go Ordering·eq q ih = never-both n p x (rw q at e)
+      go Ordering·gt q ih = rw q ((λ m g. absurd (omega arith)), tt, k)
 
 module _ {ws text : List ℕ} {used : ℕ} (n : ℕ) (r : Record) (c s : Nodes) (a : Context) (k : Holds ws text used (plug a (node n r c s)))
     (room : used < recordCount ws) (new : Record) (stands : Record → Ordering) (p x : ℕ) (e : seekNode stands 0 c ≡ Between p x) where

@@ -3,23 +3,21 @@ use mathlib.Core.Path.{_≡_, refl, ap, sym, _∙_, subst}
 use mathlib.Core.Logic.{_≢_, _⊎_, inl, inr, ⊎-elim}
 use mathlib.Core.Bool.{cond}
 use mathlib.Core.List.{List}
-use Prim.Native.Nat.{ℕ, _+_, _≤_, _<_}
+use Prim.Native.Nat.{ℕ, _+_, _≤_, _<_, Ordering, Ordering·lt, Ordering·eq, Ordering·gt}
 use native.Mathlib.Omega.{arith}
 use native.Mathlib.Decide.{ℕ-discrete}
 use borrow.Author.Tests.{eq-eqb, ne-eqb}
 use lib.Dec.{eqb}
 use Rattle.config.specs.Limits.{recordWidth}
 use Rattle.key.specs.Keys.{Key}
-use Rattle.records.specs.declared.keys.Ordering.{Ordering}
-use Rattle.records.specs.declared.keys.Ordering.the-variants.{Less, Equal, Greater}
+use Rattle.key.specs.KeyOrder.{compareKeys, choose}
 use Rattle.records.specs.declared.siblings.Place.{Place}
 use Rattle.records.specs.declared.siblings.Place.the-variants.{Found, Between}
 use Rattle.records.specs.declared.store.Record.{Record}
 use Rattle.records.specs.Words.{childWord, nextWord}
 use Rattle.records.specs.Store.{word}
-use Rattle.records.specs.Order.{compareKeys}
 use Rattle.records.specs.Keys.{storedKey}
-use Rattle.records.specs.Siblings.{standing, choose, seek}
+use Rattle.records.specs.Siblings.{standing, seek}
 use Rattle.records.specs.Nodes.{Nodes, nil, node, first, indicator, count}
 use Rattle.records.specs.Holds.{Row, Represents}
 use Rattle.records.proofs.Chains.{never-both}
@@ -54,11 +52,11 @@ module _ (stands : Record → Ordering) where
   seek-prev (node m r c s) prev p x e = go (stands r) refl (seek-prev s m p x)
     where
       go : (o : Ordering) → stands r ≡ o → (seekNode stands m s ≡ Between p x → (p ≡ m) ⊎ (0 < count p s)) → (p ≡ prev) ⊎ (0 < count p (node m r c s))
-      go Less q ih =
+      go Ordering·lt q ih =
           ⊎-elim (λ g. inr (omega (arith, indicator-same m, ap (λ (t : ℕ). indicator t m) g))) (λ g. inr (omega arith))
           (ih (rw q at e))
-      go Equal q ih = never-both m p x (rw q at e)
-      go Greater q ih = let f : Between prev m ≡ Between p x = rw q at e in inl (cc)
+      go Ordering·eq q ih = never-both m p x (rw q at e)
+      go Ordering·gt q ih = let f : Between prev m ≡ Between p x = rw q at e in inl (cc)
 
   module _ (u : ℕ) (new : Record) where
     pub count-insert : (m : ℕ) (f : Nodes) (prev p x : ℕ) → seekNode stands prev f ≡ Between p x → count m (insertNode stands u new f) ≡ count m f + indicator m u
@@ -67,9 +65,9 @@ module _ (stands : Record → Ordering) where
       where
         go : (o : Ordering) → stands r ≡ o → (seekNode stands n s ≡ Between p x → count m (insertNode stands u new s) ≡ count m s + indicator m u)
             → count m (insertNode stands u new (node n r c s)) ≡ count m (node n r c s) + indicator m u
-        go Less q ih = rw q (omega (arith, ih (rw q at e)))
-        go Equal q ih = never-both n p x (rw q at e)
-        go Greater q ih = rw q (omega arith)
+        go Ordering·lt q ih = rw q (omega (arith, ih (rw q at e)))
+        go Ordering·eq q ih = never-both n p x (rw q at e)
+        go Ordering·gt q ih = rw q (omega arith)
 
     -- The words ws' have the new record u, the link of p to it where p is a node of the line, and else what ws have. Then they represent the
     -- line with the new node, which is its first where the place is before the first.
@@ -94,7 +92,7 @@ module _ (stands : Record → Ordering) where
               → (seekNode stands m s ≡ Between p x → Represents ws s → ((n : ℕ) → count n s ≤ 1) → count m s ≡ 0
               → Row ws' u new 0 x → KeptBut s p → (0 < count p s → word ws' p nextWord ≡ u) → Inserted s m p)
               → Inserted (node m r c s) prev p
-          go Less q ih = rw q ((row (ℕ-discrete p m), frame ws ws' c (λ n w l g. kept n w l (omega arith) (λ a b. apart n g a)) (k .1), i .0), head)
+          go Ordering·lt q ih = rw q ((row (ℕ-discrete p m), frame ws ws' c (λ n w l g. kept n w l (omega arith) (λ a b. apart n g a)) (k .1), i .0), head)
             where
               e' : seekNode stands m s ≡ Between p x
               e' = rw q at e
@@ -126,8 +124,8 @@ module _ (stands : Record → Ordering) where
                     child-is = kept m childWord (omega arith) mine (λ a b. omega arith) ∙ k .0 .child-is;
                     next-is = next d;
                   }
-          go Equal q ih = never-both m p x (rw q at e)
-          go Greater q ih =
+          go Ordering·eq q ih = never-both m p x (rw q at e)
+          go Ordering·gt q ih =
               let f : Between prev m ≡ Between p x = rw q at e in
               let l : p ≡ prev = cc in
               let g : x ≡ m = cc in

@@ -1,10 +1,8 @@
 -- An element added last keeps the words holding a forest, and so does a single value that becomes a sequence of two.
 use mathlib.Core.Path.{_≡_, refl, subst}
 use mathlib.Core.List.{List}
-use Prim.Native.Nat.{ℕ, _+_, _<_}
+use Prim.Native.Nat.{ℕ, _+_, _<_, Ordering, Ordering·lt}
 use native.Mathlib.Omega.{arith}
-use Rattle.records.specs.declared.keys.Ordering.{Ordering}
-use Rattle.records.specs.declared.keys.Ordering.the-variants.{Less}
 use Rattle.records.specs.declared.siblings.Place.the-variants.{Between}
 use Rattle.records.specs.declared.store.ValueWords.{ValueWords}
 use Rattle.records.specs.declared.store.Record.{Record}
@@ -24,7 +22,7 @@ use Rattle.records.proofs.Valued.{value-holds}
 
 -- The place behind all.
 abbrev pub behindAll : Record → Ordering
-behindAll r = Less
+behindAll r = Ordering·lt
 
 last-place : (prev : ℕ) (f : Nodes) → seekNode behindAll prev f ≡ Between (lastOf prev (numbers f)) 0
 last-place prev nil = refl

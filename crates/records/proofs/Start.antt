@@ -1,10 +1,11 @@
 -- Cleared words hold the Uninitialized root.
 use mathlib.Core.Path.{_≡_, refl, ap}
 use mathlib.Core.List.{List}
-use Prim.Native.Nat.{ℕ, zero, suc, _+_, _*_, _≤_}
+use Prim.Native.Nat.{ℕ, _+_, _*_, _≤_}
 use native.Mathlib.Omega.{arith}
-use lib.ListN.{getD, replicate, length-replicate}
+use lib.ListN.{replicate, length-replicate}
 use Rattle.config.specs.Limits.{recordWidth}
+use Rattle.laws.proofs.Lists.{zeros}
 use Rattle.records.specs.Words.{uninitializedKind}
 use Rattle.records.specs.Store.{word}
 use Rattle.records.specs.Records.{keyWordsAt, valueAt}
@@ -12,11 +13,6 @@ use Rattle.records.specs.Adding.{unkeyed, childless}
 use Rattle.records.specs.Nodes.{nil, node, indicator}
 use Rattle.records.specs.Holds.{Holds}
 use Rattle.records.proofs.Forests.{indicator-same, indicator-other}
-
-zeros : (n i : ℕ) → getD {A = ℕ} (replicate n 0) i 0 ≡ 0
-zeros zero i = refl
-zeros (suc n) zero = refl
-zeros (suc n) (suc i) = zeros n i
 
 word-zero : (len n w : ℕ) → word (replicate len 0) n w ≡ 0
 unfolding word

@@ -1,16 +1,14 @@
 -- Lists of siblings, and the place of a key in one.
-use Prim.Native.Nat.{ℕ, zero, suc, _<_}
+use Prim.Native.Nat.{ℕ, zero, suc, _<_, Ordering}
 use mathlib.Core.List.{List, [], _∷_}
 use lib.ListN.{length}
 use Rattle.key.specs.Keys.{Key}
-use Rattle.records.specs.declared.keys.Ordering.{Ordering}
-use Rattle.records.specs.declared.keys.Ordering.the-variants.{Less, Equal, Greater}
+use Rattle.key.specs.KeyOrder.{compareKeys, choose}
 use Rattle.records.specs.declared.siblings.Place.{Place}
 use Rattle.records.specs.declared.siblings.Place.the-variants.{Found, Between}
 use Rattle.records.specs.Words.{childWord, nextWord}
 use Rattle.records.specs.Store.{recordCount, word}
 use Rattle.records.specs.Records.{keyWordsAt}
-use Rattle.records.specs.Order.{compareKeys}
 use Rattle.records.specs.Keys.{keyAt, InText}
 
 -- The numbers of the siblings from record n on, at most as many as the fuel. That the fuel of `children` isn't used up is `ends` of `Linked`, below.
@@ -31,12 +29,6 @@ lastOf d (m ∷ ms) = lastOf m ms
 -- Where the key of record n stands to k.
 abbrev pub standing : List ℕ → List ℕ → Key → ℕ → Ordering
 standing ws text k n = compareKeys (keyAt ws text n) k
-
--- The choice by an ordering.
-abbrev pub choose : {A : Type 0} → Ordering → A → A → A → A
-choose Less a b c = a
-choose Equal a b c = b
-choose Greater a b c = c
 
 -- The place in a list of siblings, each of which stands somewhere to the key, behind prev.
 unfoldable pub seek : (ℕ → Ordering) → ℕ → List ℕ → Place

@@ -1,9 +1,10 @@
 // The order of keys, and where the key of a record stands to one that is looked for.
 ghost use mathlib.Core.Path.{_≡_};
-ghost use Prim.Native.Nat.{_<_};
+ghost use Prim.Native.Nat.{_<_, compare};
 ghost use Rattle.decode.specs.Decoding.{decoded};
 ghost use Rattle.records.specs.Store.{recordCount};
-ghost use Rattle.records.specs.Order.{compareNumbers, compareBytes, compareKeys};
+ghost use Rattle.key.specs.KeyOrder.{compareBytes, compareKeys};
+ghost use Rattle.records.specs.Order.{orderingOf};
 ghost use Rattle.records.specs.Keys.{keyAt, soughtKey, InText};
 ghost use Rattle.records.specs.Records.{keyWordsAt};
 use crate::store;
@@ -23,7 +24,7 @@ pub enum Sought {
 
 // The order of two Ints.
 fn compare_ints(a: u32, b: u32) -> Ordering
-    ensures { λ r. ⌜ r ≡ compareNumbers a b ⌝ }
+    ensures { λ r. ⌜ orderingOf r ≡ compare a b ⌝ }
 {
     if a < b {
         return Ordering::Less;
@@ -37,7 +38,7 @@ fn compare_ints(a: u32, b: u32) -> Ordering
 // The order of some bytes and those that a raw segment decodes to. The segment is decoded on the way and nothing is written, so that
 // a key that is there already is found however little text is left.
 fn compare_bytes(bytes: &[u8], raw: &[u8]) -> Ordering
-    ensures { λ r. ⌜ r ≡ compareBytes (now (bytes .entry)) (decoded (now (raw .entry))) ⌝ }
+    ensures { λ r. ⌜ orderingOf r ≡ compareBytes (now (bytes .entry)) (decoded (now (raw .entry))) ⌝ }
 {
     let mut i = 0;
     let mut j = 0;
@@ -69,7 +70,7 @@ fn compare_bytes(bytes: &[u8], raw: &[u8]) -> Ordering
 // Where the key of record n stands to the one that is looked for.
 pub(crate) fn compare_key(words: &[u32], text: &[u8], n: u32, key: Sought, raw: &[u8]) -> Ordering
     requires { ⌜ (n < recordCount (now words)) × InText (now text) (keyWordsAt (now words) n) ⌝ }
-    ensures { λ r. ⌜ r ≡ compareKeys (keyAt (now (words .entry)) (now (text .entry)) n) (soughtKey key (now (raw .entry))) ⌝ }
+    ensures { λ r. ⌜ orderingOf r ≡ compareKeys (keyAt (now (words .entry)) (now (text .entry)) n) (soughtKey key (now (raw .entry))) ⌝ }
 {
     let kind = store::get_word(words, n, store::KEY_KIND);
     match key {

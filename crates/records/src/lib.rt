@@ -4,6 +4,7 @@
 // proofs/ carry over each of those functions.
 // Below it stand the record's width (config), decoding (decode) and the keys (key).
 pub mod adding; // a value added at a record
+pub mod clearing; // slices cleared
 pub mod keys; // the order of keys
 pub mod siblings; // lists of siblings: a child found, a child put in
 pub mod store; // the words of a record

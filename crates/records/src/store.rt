@@ -1,4 +1,4 @@
-// The words of a record, read and written. Nothing else in the code knows how wide a record is, or in which word a thing stands.
+// The words of a record, read and written. How wide a record is and in which word a thing stands is said here alone.
 ghost use mathlib.Core.Path.{_≡_};
 ghost use Prim.Native.Nat.{_<_};
 ghost use lib.Dec.{leb};
@@ -7,7 +7,7 @@ ghost use Rattle.records.specs.Store.{recordCount, word, withWord};
 ghost use Rattle.records.specs.Records.{valueAt, keyFields, withWords, withValue, withRecord};
 
 // A record's width in words.
-const WIDTH: usize = 8;
+pub const WIDTH: usize = 8;
 
 // The words of a record, by their numbers.
 pub const KIND: usize = 0;

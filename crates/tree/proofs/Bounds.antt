@@ -1,6 +1,6 @@
 -- What a command adds at most: two records, and no more text than the raw bytes that it is handed.
 use mathlib.Core.Path.{_≡_, subst}
-use mathlib.Core.List.{List, _++_}
+use mathlib.Core.List.{List}
 use Prim.Native.Nat.{ℕ, _+_, _≤_}
 use native.Mathlib.Omega.{arith}
 use lib.ListN.{length, length-append}
@@ -12,12 +12,11 @@ use Rattle.records.specs.declared.keys.Sought.{Sought}
 use Rattle.records.specs.declared.keys.Sought.the-variants.{Int, String as StringKey}
 use Rattle.records.specs.Keys.{soughtKey}
 use Rattle.reading.specs.Values.{Value, map, child}
-use Rattle.reading.specs.Leaves.{Leaf}
 use Rattle.reading.specs.Charging.{Lent, Made, Rule, charge}
-use Rattle.reading.specs.Adding.{keyText, leafText, appendValue, insertUnique, enterKey, atPath}
+use Rattle.reading.specs.Adding.{keyText, leafText, enterKey, atPath}
 use Rattle.reading.specs.Reading.{lentBy}
 use Rattle.reading.proofs.Results.{Each, gives, refuses, gives-over, each-charge}
-use Rattle.reading.proofs.Rules.{Obeys, Passes, at-path, Adding, append-obeys, insert-obeys, push-obeys, Entering, enter-obeys}
+use Rattle.reading.proofs.Rules.{Obeys, Passes, at-path, Entering, enter-obeys}
 use Rattle.tree.specs.declared.Here.{Here}
 use Rattle.tree.specs.declared.Performed.{Performed}
 use Rattle.tree.specs.declared.Performed.the-variants.{Made as MadeHere}
@@ -26,7 +25,7 @@ use Rattle.tree.specs.declared.adding.LeafKind.the-variants.{Null, NoVal
 use Rattle.tree.specs.Leaves.{leafOf}
 use Rattle.tree.specs.Laying.{layAnswer}
 use Rattle.tree.specs.Stored.{Standing}
-use Rattle.tree.specs.Commands.{After, stood, stopped, Does, enters, inserts, pushes, appends, stays, further, Modest}
+use Rattle.tree.specs.Commands.{After, stood, stopped, Does, enters, further, Modest}
 use Rattle.tree.proofs.Lays.{lay-yes}
 
 key-le : (key : Sought) (raw : List ℕ) → length (keyText (soughtKey key raw)) ≤ length raw
@@ -70,20 +69,6 @@ module _ (b : ℕ) where
     charged : {A : Type 0} (k : ℕ) (x : List ℕ) (a : A) (n : ℕ) (t : List ℕ) → k ≤ 2 → length x ≤ b → Little b n t (charge lent k x a n t)
     charged k x a n t h l = each-charge lent k x a n t (λ w. (omega arith, omega (arith, length-append t x)))
 
-    adding : (x : Leaf) → length (leafText x) ≤ b
-        → Adding lent x (λ k. length (keyText k) + length (leafText x) ≤ b) (λ v n t r. Little b n t r) (λ k cs n t r. Little b n t r)
-    adding x h =
-        record {
-          passes = passes;
-          emptyKey = omega arith;
-          inserted = λ k g cs n t e.
-              charged 1 (keyText k ++ leafText x) _ n t (omega arith) (omega (arith, length-append (keyText k) (leafText x)));
-          becomes = λ n t. charged 0 (leafText x) _ n t (omega arith) h;
-          paired = λ v n t s. charged 2 (leafText x) _ n t (omega arith) h;
-          pushed = λ cs n t. charged 1 (leafText x) _ n t (omega arith) h;
-          pushedFirst = λ n t. charged 1 (leafText x) _ n t (omega arith) h;
-        }
-
     entering : Entering lent (λ k. length (keyText k) ≤ b) (λ v n t r. Little b n t r) (λ k cs n t r. Little b n t r)
     entering =
         record {
@@ -115,25 +100,3 @@ module _ {ws text ws' text' : List ℕ} {here : Here} {r : Performed} (s : Stand
   enter-modest key raw d =
       modest (length raw) (enters (soughtKey key raw)) (further (soughtKey key raw))
       (λ lent p. along (length raw) p (enterKey lent (soughtKey key raw)) (enter-obeys (entering (length raw) lent) (soughtKey key raw) (key-le key raw))) s d
-
-  module _ (kind : LeafKind) (value : List ℕ) where
-    pub append-modest : Does ws text ws' text' here (appends (leafOf kind value)) stays r → Modest here (length value) r
-    append-modest d =
-        modest (length value) (appends (leafOf kind value)) stays
-        (λ lent p. along (length value) p (appendValue lent (leafOf kind value))
-        (append-obeys (adding (length value) lent (leafOf kind value) (leaf-le kind value)))) s d
-
-    pub push-modest : Does ws text ws' text' here (pushes (leafOf kind value)) stays r → Modest here (length value) r
-    push-modest d =
-        modest (length value) (pushes (leafOf kind value)) stays
-        (λ lent p. along (length value) p _ (push-obeys (adding (length value) lent (leafOf kind value) (leaf-le kind value)))) s d
-
-    pub insert-modest : (key : Sought) (raw : List ℕ)
-        → Does ws text ws' text' here (inserts (soughtKey key raw) (leafOf kind value)) (further (soughtKey key raw)) r → Modest here (length raw + length value) r
-    insert-modest key raw d =
-        modest (length raw + length value) (inserts (soughtKey key raw) (leafOf kind value)) (further (soughtKey key raw))
-        (λ lent p.
-        along (length raw + length value) p (insertUnique lent (soughtKey key raw) (leafOf kind value))
-        (insert-obeys (adding (length raw + length value) lent (leafOf kind value) (omega (arith, leaf-le kind value))) (soughtKey key raw)
-        (omega (arith, key-le key raw, leaf-le kind value))))
-        s d

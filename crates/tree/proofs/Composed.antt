@@ -10,12 +10,12 @@ use borrow.Author.Tests.{lt-ltb, le-ltb}
 use Rattle.key.specs.Keys.{Key}
 use Rattle.reading.specs.Values.{Label, labelKey, Value, uninitialized, null, noValue, string, map, sequence, Forest, none, child}
 use Rattle.reading.specs.Leaves.{Leaf}
-use Rattle.reading.specs.KeyOrder.{compareKeys, choose}
+use Rattle.key.specs.KeyOrder.{compareKeys, choose}
 use Rattle.reading.specs.Charging.{Lent, Made, made, refused, Rule, over, bind}
 use Rattle.reading.specs.Adding.{expectMap, expectSequence, keyText, leafText, insertNew, enterNew, push, appendValue, atEntry, insertUnique, unchanged, enterKey, noPath, atPath}
 use Rattle.reading.specs.Scanning.{under, last, enter, needMap, needSequence, add}
 use Rattle.reading.specs.Running.{perform}
-use Rattle.reading.proofs.Orders.{compare-label}
+use Rattle.reading.proofs.Labels.{compare-label}
 use Rattle.tree.proofs.Paths.{entry-same, path-same, path-further}
 
 -- One rule, and then another.

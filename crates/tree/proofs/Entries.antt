@@ -5,22 +5,22 @@ use Prim.Native.Nat.{ℕ, Ordering, Ordering·lt, Ordering·eq, Ordering·gt}
 use native.Mathlib.Omega.{arith}
 use Rattle.key.specs.Keys.{Key}
 use Rattle.records.specs.declared.store.Record.{Record}
-use Rattle.records.specs.declared.keys.Ordering.{Ordering as Standing}
 use Rattle.records.specs.declared.siblings.Place.the-variants.{Found, Between}
 use Rattle.records.specs.Nodes.{Nodes, nil, node, Context, here, along, plug}
 use Rattle.records.proofs.Chains.{never-both}
 use Rattle.records.proofs.Seeking.{seekNode, insertNode, keyStands}
 use Rattle.records.proofs.Sequences.{behindAll}
 use Rattle.reading.specs.Values.{Label, unkeyed, labelKey, Value, Forest, none, child}
-use Rattle.reading.specs.KeyOrder.{compareKeys}
+use Rattle.key.specs.KeyOrder.{compareKeys}
+use Rattle.key.proofs.KeyOrders.{opposite}
 use Rattle.reading.specs.Charging.{Made, made, refused, Rule, over}
 use Rattle.reading.specs.Adding.{labelAt, snoc, atEntry}
 use Rattle.reading.specs.Laid.{Laid, LaidAll}
 use Rattle.reading.specs.Shape.{Shaped, ShapedMap}
 use Rattle.reading.proofs.Laying.{laid-label-more}
-use Rattle.reading.proofs.Orders.{compare-label}
+use Rattle.reading.proofs.Labels.{compare-label}
 use Rattle.tree.specs.Nodes.{recordOf, below, nodes}
-use Rattle.tree.proofs.Orders.{turned, stands-turned}
+use Rattle.tree.proofs.Orders.{stands-turned}
 
 pub over-id : {A : Type 0} (x : Made A) → x ≡ over (λ a. a) x
 over-id (made a n t) = refl
@@ -74,11 +74,11 @@ occupied-here k m l v cs q =
       texts = λ t w h. h .1;
     }
 
-module _ (stands : Record → Standing) (k : Key) where
+module _ (stands : Record → Ordering) (k : Key) where
   -- Each child stands to the key as the definitions' order says.
   abbrev pub Turns : Forest → Type 0
   Turns none = Unit {0}
-  Turns (child m l v cs) = (stands (recordOf l v) ≡ turned (compareKeys k (labelKey l))) × Turns cs
+  Turns (child m l v cs) = (stands (recordOf l v) ≡ opposite (compareKeys k (labelKey l))) × Turns cs
 
   pub occupied : (cs : Forest) (prev m : ℕ) → seekNode stands prev (nodes cs) ≡ Found m → Turns cs → Occupied k cs m
   occupied none prev m e w = absurd (let z : _≡_ {A = ℕ} 0 1 = cc in omega arith)

@@ -2,7 +2,7 @@
 use mathlib.Core.Path.{_≡_, refl, ap, sym, _∙_}
 use mathlib.Core.Bool.{cond}
 use mathlib.Core.List.{List, [], _++_}
-use Prim.Native.Nat.{ℕ, zero, suc, _+_, _*_, _-_, _/_, _%_, _<_, _≤_}
+use Prim.Native.Nat.{ℕ, _+_, _*_, _-_, _/_, _%_, _<_, _≤_}
 use native.Mathlib.Omega.{arith}
 use native.Mathlib.Decide.{ℕ-discrete, decLt}
 use lib.ListN.{length, getD, replicate, length-append, length-replicate, List·getD-append}
@@ -10,6 +10,7 @@ use lib.Seq.{ext-getD, getD-append-add}
 use lib.Dec.{eqb}
 use borrow.Author.Tests.{eq-eqb, ne-eqb}
 use Rattle.config.specs.Limits.{recordWidth}
+use Rattle.laws.proofs.Lists.{zeros}
 use Rattle.records.specs.Words.{noValueKind}
 use Rattle.records.specs.Store.{word}
 use Rattle.records.specs.Records.{withValue}
@@ -27,11 +28,11 @@ use Rattle.reading.proofs.Layouts.{records-at, records-length}
 use Rattle.tree.specs.Nodes.{recordOf, below, nodes}
 use Rattle.tree.specs.Stored.{Stores}
 
-first-node : (cs : Forest) → firstNode (nodes cs) ≡ first cs
+pub first-node : (cs : Forest) → firstNode (nodes cs) ≡ first cs
 first-node none = refl
 first-node (child m l v cs) = refl
 
-first-below : (v : Value) → firstNode (below v) ≡ firstChild v
+pub first-below : (v : Value) → firstNode (below v) ≡ firstChild v
 first-below uninitialized = refl
 first-below null = refl
 first-below noValue = refl
@@ -87,11 +88,6 @@ module _ (ws : List ℕ) (i w : ℕ) (l8 : w < recordWidth) where
         go (yes e) z f g = rw (eq-eqb i m e) (row-word m l v cs (r .0) e)
         go (no e) (yes z) f g = rw (ne-eqb i m e) (f z)
         go (no e) (no z) f g = rw (ne-eqb i m e, absent v i (recordAmong i cs d) (omega arith)) (g (omega (arith, indicator-other i m e)))
-
-zeros : (n i : ℕ) → getD {A = ℕ} (replicate n 0) i 0 ≡ 0
-zeros zero i = refl
-zeros (suc n) zero = refl
-zeros (suc n) (suc i) = zeros n i
 
 pub laid-words : {ws text : List ℕ} {used filled : ℕ} {v : Value} {t : List ℕ} → Stores ws text used filled v t
     → ws ≡ layout used v ++ replicate (length ws - used * recordWidth) 0

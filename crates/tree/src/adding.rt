@@ -5,7 +5,7 @@ ghost use lib.ListN.{length};
 ghost use Rattle.records.specs.Keys.{soughtKey};
 ghost use Rattle.tree.specs.Leaves.{leafOf, newValueWords};
 ghost use Rattle.tree.specs.Stored.{Standing};
-ghost use Rattle.tree.specs.Commands.{Does, appends, pushes, inserts, stays, further, Countable, Modest};
+ghost use Rattle.tree.specs.Commands.{Does, appends, pushes, inserts, stays, further, Countable};
 use crate::Here;
 use crate::Performed;
 use crate::entering;
@@ -59,9 +59,8 @@ pub fn append_value(
     value: &[u8],
 ) -> Performed
     requires { ⌜ Standing (now words) (now text) here ⌝ ∗ ⌜ Countable here 2 (length (now value)) ⌝ }
-    ensures does { λ r. ⌜ Does (now (words .entry)) (now (text .entry)) (now (words .exit)) (now (text .exit)) here
+    ensures { λ r. ⌜ Does (now (words .entry)) (now (text .entry)) (now (words .exit)) (now (text .exit)) here
         (appends (leafOf kind (now (value .entry)))) stays r ⌝ }
-    ensures modest { λ r. ⌜ Modest here (length (now (value .entry))) r ⌝ }
 {
     match laying::lay_value(kind, value, text, here.bytes as usize) {
         Decoded::Yes(len) => {
@@ -94,9 +93,8 @@ pub fn push(
     value: &[u8],
 ) -> Performed
     requires { ⌜ Standing (now words) (now text) here ⌝ ∗ ⌜ Countable here 2 (length (now value)) ⌝ }
-    ensures does { λ r. ⌜ Does (now (words .entry)) (now (text .entry)) (now (words .exit)) (now (text .exit)) here
+    ensures { λ r. ⌜ Does (now (words .entry)) (now (text .entry)) (now (words .exit)) (now (text .exit)) here
         (pushes (leafOf kind (now (value .entry)))) stays r ⌝ }
-    ensures modest { λ r. ⌜ Modest here (length (now (value .entry))) r ⌝ }
 {
     match needing::expect_sequence(words, here) {
         Performed::Made(there) => append_value(words, text, there, kind, value),
@@ -116,9 +114,8 @@ pub fn insert_unique(
     value: &[u8],
 ) -> Performed
     requires { ⌜ Standing (now words) (now text) here ⌝ ∗ ⌜ Countable here 4 (length (now raw) + length (now value)) ⌝ }
-    ensures does { λ r. ⌜ Does (now (words .entry)) (now (text .entry)) (now (words .exit)) (now (text .exit)) here
+    ensures { λ r. ⌜ Does (now (words .entry)) (now (text .entry)) (now (words .exit)) (now (text .exit)) here
         (inserts (soughtKey key (now (raw .entry))) (leafOf kind (now (value .entry)))) (further (soughtKey key (now (raw .entry)))) r ⌝ }
-    ensures modest { λ r. ⌜ Modest here (length (now (raw .entry)) + length (now (value .entry))) r ⌝ }
 {
     match entering::enter(words, text, here, key, raw) {
         Performed::Made(there) => append_value(words, text, there, kind, value),

@@ -1,5 +1,8 @@
-//! A model of document 01's reading: recursive, as the source's parser is, with values in a growing list instead of lent
-//! records. It shares nothing with the proved reader, and gives everything that a reading answers and leaves.
+//! A model of document 01's reading, and in `fields` of its field reads. It is recursive, as the source's parser is, with values in a
+//! growing list instead of lent records. It shares nothing with the proved reader, and gives everything that a call answers and leaves.
+
+mod fields;
+pub use fields::{list, text, FieldOutcome};
 
 /// How a reading is set: `depth` is refused above 64.
 #[derive(Clone, Copy, Debug, PartialEq, Eq)]
@@ -27,6 +30,19 @@ const MAX_LENGTH: usize = 65_535;
 
 /// Reads `input` where `words` and `text` are lent, which hold anything before.
 pub fn read(config: Config, input: &[u8], words: &[u32], text: &[u8]) -> Outcome {
+    match accept(config, input, words, text) {
+        Ok(reader) => reader.accepted(words.len(), text.len()),
+        Err(refused) => refused,
+    }
+}
+
+/// The reader after it has accepted the input, or what a refused reading answers and leaves.
+fn accept<'a>(
+    config: Config,
+    input: &'a [u8],
+    words: &[u32],
+    text: &[u8],
+) -> Result<Reader<'a>, Outcome> {
     let untouched = |number| Outcome {
         number,
         place: 0,
@@ -36,13 +52,13 @@ pub fn read(config: Config, input: &[u8], words: &[u32], text: &[u8]) -> Outcome
         text: text.to_vec(),
     };
     if config.depth > MAX_DEPTH {
-        return untouched(1);
+        return Err(untouched(1));
     }
     if input.len() > MAX_LENGTH {
-        return untouched(2);
+        return Err(untouched(2));
     }
     if words.len() < WIDTH {
-        return untouched(3);
+        return Err(untouched(3));
     }
     let mut reader = Reader {
         config,
@@ -55,13 +71,13 @@ pub fn read(config: Config, input: &[u8], words: &[u32], text: &[u8]) -> Outcome
         text: Vec::new(),
     };
     match reader.parse() {
-        Ok(()) => reader.accepted(words.len(), text.len()),
-        Err(number) => Outcome {
+        Ok(()) => Ok(reader),
+        Err(number) => Err(Outcome {
             place: reader.place as u32,
             words: vec![0; words.len()],
             text: vec![0; text.len()],
             ..untouched(number)
-        },
+        }),
     }
 }
 

@@ -1,6 +1,7 @@
 //! The calls into the crate's own files, and its answers as plain types.
 
 use crate::exposed::{self, parse::ParsedValue};
+pub use crate::fields::{list, struct_list, struct_text, text};
 use crate::{Config, Error, Key, Tree};
 
 /// Why there is nothing to compare with; `None`, since the crate's files were found.
@@ -51,7 +52,7 @@ fn key(key: &exposed::parse::Key) -> Key {
 }
 
 /// How the crate words each refusal of document 01, up to where a wording names parts of the input.
-const REFUSALS: [(u32, &str); 10] = [
+const REFUSALS: [(u32, &str); 15] = [
     (4, "query string ended before expected"),
     (5, "unexpected end of input while parsing nested key"),
     (6, "invalid input: the key `"),
@@ -77,10 +78,15 @@ const REFUSALS: [(u32, &str); 10] = [
         "unsupported: unable to parse nested maps of unindexed sequences",
     ),
     (13, "unsupported: cannot mix unindexed sequences"),
+    (18, "invalid type: "),
+    (19, "multiple values provided for non-sequence field"),
+    (20, "missing index, expected: "),
+    (21, "invalid utf-8 sequence"),
+    (21, "incomplete utf-8 byte sequence"),
 ];
 
 /// Document 01's number for a refusal.
-fn number(wording: &str) -> u32 {
+pub fn number(wording: &str) -> u32 {
     let worded = |(_, start): &&(u32, &str)| wording.starts_with(start);
     match REFUSALS.iter().find(worded) {
         Some((number, _)) => *number,

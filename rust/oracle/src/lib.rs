@@ -9,13 +9,18 @@
 #[cfg(serde_qs_sources)]
 include!(concat!(env!("OUT_DIR"), "/modules.rs"));
 #[cfg(serde_qs_sources)]
+mod fields;
+#[cfg(serde_qs_sources)]
 mod serializer;
 #[cfg(serde_qs_sources)]
-use {config::Config, de::QsDeserializer as Deserializer, error::Error, serializer::Serializer};
+use {
+    config::Config, config::DuplicateKeyBehavior, de::QsDeserializer as Deserializer, error::Error,
+    serializer::Serializer,
+};
 
 #[cfg_attr(not(serde_qs_sources), path = "missing.rs")]
 mod calls;
-pub use calls::{accepts, decode, parse, MISSING};
+pub use calls::{accepts, decode, list, parse, struct_list, struct_text, text, MISSING};
 
 /// A key of a map.
 #[derive(Clone, Debug, PartialEq, Eq)]

@@ -23,3 +23,35 @@ pub fn parse(_input: &[u8], _depth: usize, _form: bool) -> Result<Tree, (u32, us
 pub fn accepts(_input: &[u8], _depth: usize, _form: bool) -> bool {
     panic!("{}", MISSING.unwrap_or_default())
 }
+
+/// Panics: see [`MISSING`].
+pub fn text(
+    _input: &[u8],
+    _depth: usize,
+    _form: bool,
+    _duplicates: bool,
+    _name: &str,
+) -> Result<Vec<u8>, u32> {
+    panic!("{}", MISSING.unwrap_or_default())
+}
+
+/// Panics: see [`MISSING`].
+pub fn list(
+    _input: &[u8],
+    _depth: usize,
+    _form: bool,
+    _duplicates: bool,
+    _name: &str,
+) -> Result<Vec<Vec<u8>>, u32> {
+    panic!("{}", MISSING.unwrap_or_default())
+}
+
+/// Panics: see [`MISSING`].
+pub fn struct_text(_input: &[u8], _name: &str) -> Result<Vec<u8>, String> {
+    panic!("{}", MISSING.unwrap_or_default())
+}
+
+/// Panics: see [`MISSING`].
+pub fn struct_list(_input: &[u8], _name: &str) -> Result<Vec<Vec<u8>>, String> {
+    panic!("{}", MISSING.unwrap_or_default())
+}

@@ -1,10 +1,15 @@
-//! `layout SEGMENT`: the text that the controller will have for a raw segment.
+//! `layout TICKET [NAME...]`: a ticket as the controller will read it.
 //!
-//! The text goes to standard output byte for byte and with nothing added. Only a terminal gets it
-//! with a newline at the end and with control characters spelled out, which it would obey.
+//! With names, each field's text and, where it is a list, its elements. Without, what an accepted ticket has at its root. A refusal is
+//! told with its number and its place, and with the ticket marked there. Whatever comes from the ticket is shown in quotes, and with
+//! escapes for all that a terminal would obey.
 //!
-//! Exit status: 0, the text is shown; 1, it isn't UTF-8, or can't be written; 2, bad usage.
+//! `layout --segment SEGMENT`: the text of a raw segment alone. It goes to standard output byte for byte and with nothing added; only
+//! a terminal gets it with a newline at the end and with control characters spelled out.
+//!
+//! Exit status: 0, shown; 1, something was refused, isn't UTF-8 or can't be written; 2, bad usage.
 
+use qs::{Config, DuplicateKeyBehavior::TakeLast, FieldRead};
 use std::error::Error;
 use std::ffi::OsString;
 use std::io::{self, IsTerminal, Write};
@@ -12,25 +17,233 @@ use std::os::unix::ffi::OsStringExt;
 use std::process::ExitCode;
 use std::string::FromUtf8Error;
 
-const NO_TEXT: u8 = 1;
+const REFUSED: u8 = 1;
 const BAD_USAGE: u8 = 2;
+const USAGE: &str = "usage: layout TICKET [NAME...]\n       layout --segment SEGMENT";
+
+/// What each of document 01's numbers means.
+const MEANINGS: [&str; 23] = [
+    "accepted",
+    "the depth is above 64",
+    "the ticket is longer than 65,535 bytes",
+    "no record was lent",
+    "the ticket ends straight after an open bracket",
+    "the ticket ends before the closing bracket",
+    "`[]` where a map is",
+    "`[]` where a single value is",
+    "a key where a sequence is",
+    "a key where a string is",
+    "a key where an empty value is",
+    "another byte after `]`",
+    "`[` after `[]`",
+    "another byte after `[]`",
+    "too few records were lent",
+    "too little text was lent",
+    "the ticket has no named fields",
+    "there is no such field",
+    "the field is of another kind",
+    "several values for one text",
+    "an index is missing",
+    "the text is not UTF-8",
+    "too few words were lent for the list",
+];
 
 fn main() -> ExitCode {
-    let arguments: Vec<OsString> = std::env::args_os().skip(1).collect();
-    let Ok([segment]) = <[OsString; 1]>::try_from(arguments) else {
-        eprintln!("usage: layout SEGMENT");
-        return ExitCode::from(BAD_USAGE);
+    let arguments = std::env::args_os().skip(1).map(OsString::into_vec);
+    let arguments: Vec<Vec<u8>> = arguments.collect();
+    let done = match arguments.as_slice() {
+        [option, segment] if option == b"--segment" => show_segment(segment),
+        [option, ..] if option == b"--segment" => return bad_usage(),
+        [input] => show_root(input),
+        [input, names @ ..] => show_fields(input, names),
+        [] => return bad_usage(),
     };
-    if let Err(why) = run(&segment.into_vec()) {
+    if let Err(why) = done {
         eprintln!("layout: {why}");
-        return ExitCode::from(NO_TEXT);
+        return ExitCode::from(REFUSED);
     }
     ExitCode::SUCCESS
 }
 
-fn run(raw: &[u8]) -> Result<(), Box<dyn Error>> {
+fn bad_usage() -> ExitCode {
+    eprintln!("{USAGE}");
+    ExitCode::from(BAD_USAGE)
+}
+
+type Shown = Result<(), Box<dyn Error>>;
+
+/// Records and text, as much as a ticket can need.
+fn buffers(input: &[u8]) -> (Vec<u32>, Vec<u8>) {
+    (vec![0; 8 * (input.len() + 1)], vec![0; input.len()])
+}
+
+/// What a ticket has at its root.
+fn show_root(input: &[u8]) -> Shown {
+    let (mut records, mut text) = buffers(input);
+    let reading = qs::parse(Config::default(), input, &mut records, &mut text);
+    if reading.number != 0 {
+        return Err(refusal(input, reading.number, reading.place).into());
+    }
+    let mut out = io::stdout().lock();
+    let (count, bytes) = (reading.records, reading.bytes);
+    writeln!(
+        out,
+        "accepted: records used {count}, bytes of text used {bytes}"
+    )?;
+    let record = |number: u32| &records[8 * number as usize..][..8];
+    if record(0)[0] == STRING {
+        // The root is the field of the empty name.
+        writeln!(out, "\"\": {}", value(record(0), &text))?;
+    }
+    let mut next = record(0)[6];
+    while next != 0 {
+        let child = record(next);
+        let key = match child[1..4] {
+            [2, offset, length] => quoted(part(&text, offset, length)),
+            [1, int, _] => format!("{int}, a number and no name"),
+            _ => "an element without a name".to_owned(),
+        };
+        writeln!(out, "{key}: {}", value(child, &text))?;
+        next = child[7];
+    }
+    out.flush()?;
+    Ok(())
+}
+
+/// The first word of a String's record.
+const STRING: u32 = 3;
+
+/// A record's kind, and a String's bytes.
+fn value(record: &[u32], text: &[u8]) -> String {
+    const KINDS: [&str; 6] = [
+        "uninitialized",
+        "map",
+        "sequence",
+        "string",
+        "null",
+        "no value",
+    ];
+    let kind = KINDS[record[0] as usize];
+    match record[0] {
+        STRING => format!("{kind} {}", quoted(part(text, record[4], record[5]))),
+        _ => kind.to_owned(),
+    }
+}
+
+/// The fields, one after another. One that can't be read doesn't keep the others from being shown.
+fn show_fields(input: &[u8], names: &[Vec<u8>]) -> Shown {
+    let mut out = io::stdout().lock();
+    let mut unread = Vec::new();
+    for name in names {
+        match field_of(input, name) {
+            Ok(lines) => out.write_all(lines.as_bytes())?,
+            Err(Unread::Input(why)) => return Err(why.into()),
+            Err(Unread::Field(why)) => unread.push(why),
+        }
+    }
+    out.flush()?;
+    match unread.is_empty() {
+        true => Ok(()),
+        false => Err(unread.join("\nlayout: ").into()),
+    }
+}
+
+/// Why a field isn't shown.
+enum Unread {
+    Input(String),
+    Field(String),
+}
+
+/// Reads a field, as a text and as a list; it gives what [`lines`] makes of them.
+fn field_of(input: &[u8], name: &[u8]) -> Result<String, Unread> {
+    let (mut records, mut text) = buffers(input);
+    let mut list = vec![0; 2 * (input.len() + 1)];
+    let config = Config::default();
+    let one = qs::text(config, TakeLast, input, name, &mut records, &mut text);
+    if (1..16).contains(&one.number) {
+        return Err(Unread::Input(refusal(input, one.number, one.place)));
+    }
+    let all = qs::list(
+        config,
+        TakeLast,
+        input,
+        name,
+        &mut records,
+        &mut text,
+        &mut list,
+    );
+    let name = quoted(name);
+    match (one.number, all.number) {
+        (0, _) | (_, 0) => Ok(lines(&name, &text, one, all, &list)),
+        // What is wrong with a list says more than that it is no text.
+        (18, number) | (number, _) => Err(Unread::Field(format!("{name}: {}", meaning(number)))),
+    }
+}
+
+/// A field's lines: its text where it has one, and its elements where they are more than that one text.
+fn lines(name: &str, text: &[u8], one: FieldRead, all: FieldRead, list: &[u32]) -> String {
+    let mut lines = String::new();
+    if one.number == 0 {
+        let bytes = part(text, one.offset, one.length);
+        lines += &format!("{name} = {}\n", quoted(bytes));
+    }
+    if all.number != 0 {
+        lines += &format!("{name} as a list: {}\n", meaning(all.number));
+    }
+    if one.number != 0 || all.length != 1 {
+        let elements = list.chunks_exact(2).take(all.length as usize);
+        for (index, words) in elements.enumerate() {
+            let bytes = part(text, words[0], words[1]);
+            lines += &format!("{name}[{index}] = {}\n", quoted(bytes));
+        }
+    }
+    lines
+}
+
+fn meaning(number: u32) -> String {
+    format!("{} ({number})", MEANINGS[number as usize])
+}
+
+fn part(text: &[u8], offset: u32, length: u32) -> &[u8] {
+    &text[offset as usize..][..length as usize]
+}
+
+/// Bytes in quotes, as text where they are UTF-8.
+fn quoted(bytes: &[u8]) -> String {
+    match std::str::from_utf8(bytes) {
+        Ok(text) => format!("{text:?}"),
+        Err(_) => format!("\"{}\"", bytes.escape_ascii()),
+    }
+}
+
+/// Why a ticket is refused, and the part around the byte that was taken last, marked.
+fn refusal(input: &[u8], number: u32, place: u32) -> String {
+    let why = format!("refused: {}", meaning(number));
+    let Some(last) = (place as usize).checked_sub(1) else {
+        return why;
+    };
+    let (start, end) = (last.saturating_sub(40), input.len().min(last + 20));
+    let cut = |cut| if cut { "..." } else { "" };
+    let before = format!("{}{}", cut(start > 0), input[start..last].escape_ascii());
+    let after = format!(
+        "{}{}",
+        input[last..end].escape_ascii(),
+        cut(end < input.len())
+    );
+    let mark = " ".repeat(before.len()) + "^";
+    format!("{why} at place {place}\n  {before}{after}\n  {mark}")
+}
+
+/// The text of a segment.
+fn show_segment(raw: &[u8]) -> Shown {
     let text = text_of(raw)?;
-    show(&text)?;
+    let mut out = io::stdout().lock();
+    if out.is_terminal() {
+        writeln!(out, "{}", spelled_out(&text))?;
+    } else {
+        out.write_all(text.as_bytes())?;
+    }
+    out.flush()?;
     Ok(())
 }
 
@@ -55,17 +268,6 @@ fn not_utf8(error: &FromUtf8Error) -> String {
     format!("the decoded text is not UTF-8: it breaks at offset {place}, byte {byte:02X}")
 }
 
-/// Writes the text to standard output.
-fn show(text: &str) -> io::Result<()> {
-    let mut out = io::stdout().lock();
-    if out.is_terminal() {
-        writeln!(out, "{}", spelled_out(text))?;
-    } else {
-        out.write_all(text.as_bytes())?;
-    }
-    out.flush()
-}
-
 /// The text with its control characters, but for newline and tab, as `\u{1b}` and the like.
 fn spelled_out(text: &str) -> String {
     let obeyed = |c: char| c.is_control() && c != '\n' && c != '\t';
@@ -82,7 +284,7 @@ fn spelled_out(text: &str) -> String {
 
 #[cfg(test)]
 mod tests {
-    use super::spelled_out;
+    use super::{quoted, refusal, spelled_out};
 
     #[test]
     fn a_terminal_gets_no_control_characters() {
@@ -91,5 +293,22 @@ mod tests {
             spelled_out("a\x1b[2Jb\r\0\x7f\u{9b}"),
             r"a\u{1b}[2Jb\u{d}\u{0}\u{7f}\u{9b}"
         );
+        assert_eq!(
+            quoted("é\n\x1b\u{9b}\u{202e}".as_bytes()),
+            r#""é\n\u{1b}\u{9b}\u{202e}""#
+        );
+        assert_eq!(quoted(b"\xFF\x1b"), r#""\xff\x1b""#);
+    }
+
+    #[test]
+    fn a_refusal_is_marked_at_its_place() {
+        assert!(refusal(b"a\x1b[][b]=1", 12, 5).ends_with("\n  a\\x1b[][b]=1\n         ^"));
+        assert!(refusal(b"a[", 4, 3).ends_with("\n  a[\n    ^"));
+        let long = [b'a'; 1_000];
+        let cut = "a".repeat(40);
+        assert!(refusal(&long, 5, 1_001).ends_with(&format!("\n  ...{cut}\n  {:43}^", "")));
+        assert!(refusal(&long, 5, 3).contains("\n  aaa"));
+        assert!(refusal(&long, 5, 3).ends_with("aaa...\n    ^"));
+        assert!(!refusal(&long, 2, 0).contains('\n'));
     }
 }

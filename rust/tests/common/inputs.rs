@@ -84,6 +84,54 @@ pub fn query(random: &mut Random, pairs: usize) -> Vec<u8> {
     input
 }
 
+/// Names of fields, most of which [`fields_query`] often has; `1` and `4294967295` name Int keys too.
+pub const NAMES: [&str; 8] = ["a", "b", "1", "", "c", "4294967295", "\u{e9}", "a[b]"];
+
+/// So many pairs of few names, with texts and lists of every kind, well-formed or not, in one case out of eight damaged.
+pub fn fields_query(random: &mut Random, pairs: usize) -> Vec<u8> {
+    const NAMED: [&[u8]; 12] = [
+        b"a",
+        b"a",
+        b"a",
+        b"b",
+        b"b",
+        b"%31",
+        b"1",
+        b"",
+        b"%C3%A9",
+        b"%FF",
+        b"a%5Bb%5D",
+        b"c",
+    ];
+    const PLACES: [&[u8]; 12] = [
+        b"", b"", b"", b"[]", b"[]", b"[0]", b"[0]", b"[1]", b"[1]", b"[2]", b"[b]", b"[0][]",
+    ];
+    const TEXTS: [&[u8]; 8] = [
+        b"", b"=", b"=1", b"=x+y", b"=%C3%A9", b"=%C3", b"=\xFF", b"=%%41",
+    ];
+    // One or two names for a whole query make lists; all make clashes seldom.
+    let names = 1 + random.below(3);
+    let first = random.below(NAMED.len());
+    let style = random.below(3);
+    let mut input = Vec::new();
+    for i in 0..pairs {
+        if i > 0 {
+            input.push(b'&');
+        }
+        input.extend_from_slice(NAMED[(first + random.below(names)) % NAMED.len()]);
+        input.extend_from_slice(match style {
+            0 => PLACES[random.below(PLACES.len())],
+            1 => PLACES[5 + random.below(5)],
+            _ => PLACES[random.below(5)],
+        });
+        input.extend_from_slice(TEXTS[random.below(TEXTS.len())]);
+    }
+    if random.below(8) == 0 {
+        random.damage(&mut input);
+    }
+    input
+}
+
 /// A query of close to so many bytes that is mostly accepted: every pair has a key of its own kind.
 pub fn long_query(random: &mut Random, length: usize) -> Vec<u8> {
     let mut input = Vec::new();

@@ -74,6 +74,14 @@ pub fn every_string(alphabet: &[u8], longest: usize, mut check: impl FnMut(&[u8]
     }
 }
 
+/// How often a random comparison is made, where one in the gate makes `few`: `COMPARE=whole` in the environment asks for more.
+pub fn times(few: usize) -> usize {
+    match std::env::var("COMPARE").as_deref() {
+        Ok("whole") => 20 * few,
+        _ => few,
+    }
+}
+
 /// Whether the crate itself was built, to compare with. Where it was not, the calling comparison
 /// says that it is left out; in continuous integration (CI is set) it fails instead.
 pub fn reference_is_there() -> bool {

@@ -8,24 +8,24 @@ returns c =
     let start = c .before .before in
     rw (le-leb (start .args .number) 3 (c .if1 .taken))
 
-clear-requires : tie.Need-clear-requires
-clear-requires c κs = search needs
+clear-words-requires : tie.Need-clear-words-requires
+clear-words-requires c κs = search needs
 
 same-length : tie.Need-same-length
 same-length c = search needs
 
 returns-2 : tie.Need-returns-2
 returns-2 c =
-    let at-clear = c .before .before in
-    let at-if1 = at-clear .before .before in
+    let at-clear-words = c .before .before in
+    let at-if1 = at-clear-words .before .before in
     let start = at-if1 .before .before in
-    rw (lt-leb (start .args .number) 3 (at-if1 .if1 .left)) (at-clear .clear .ensures)
+    rw (lt-leb (start .args .number) 3 (at-if1 .if1 .left)) (at-clear-words .clear-words .ensures)
 
 pub clear-after-spec : {M : Type 1} → statement M
 clear-after-spec =
     tie.close
     (tie.spec
     returns
-    clear-requires
+    clear-words-requires
     same-length
     returns-2)

@@ -1,5 +1,6 @@
+use native.Mathlib.Omega.{arith}
 use borrow.Author.Needs.{needs}
-use Rattle.de.proofs.AfterReading.{readable-after, list-accepted, list-refused}
+use Rattle.de.proofs.AfterReading.{readable-after, few-listed, place-bounded, list-accepted, list-refused}
 use Rattle.de.proofs.deserialize_seq.Statement.{statement}
 use Rattle.de.proofs.deserialize_seq.Tie as tie
 
@@ -18,13 +19,30 @@ field-list-requires c κs =
     (at-records .records .given .1)
 
 list-answer-requires : tie.Need-list-answer-requires
-list-answer-requires c κs = search needs
+list-answer-requires c κs =
+    let at-field-list = c .before .before in
+    let at-records = at-field-list .before .before .before .before .before in
+    let at-parse = at-records .before .before .before .before .before .before in
+    let start = at-parse .before .before .before .before .before .before .before .before in
+    few-listed (start .args .config) (start .args .input .now) (start .args .words .now) (start .args .text .now) _ _ (at-parse .parse .ensures)
+    (at-records .records .given .1) (start .args .duplicates) (start .args .name .now) _ (at-field-list .field-list .ensures)
 
 enum-known-number : tie.Need-enum-known-number
 enum-known-number c = search needs
 
 clear-after-requires : tie.Need-clear-after-requires
 clear-after-requires c κs = search needs
+
+cast-refused : tie.Need-cast-refused
+cast-refused c =
+    let at-number = c .before .before .before .before .before in
+    let at-parse = at-number .before .before .before .before .before .before in
+    let start = at-parse .before .before .before .before .before .before .before .before in
+    omega (
+      arith,
+      place-bounded (start .args .config) (start .args .input .now) (start .args .words .now) (start .args .text .now) _ _ (at-parse .parse .ensures)
+          (at-number .number .given .1),
+    )
 
 refused-requires : tie.Need-refused-requires
 refused-requires c κs = search needs
@@ -77,6 +95,7 @@ deserialize-seq-spec =
     list-answer-requires
     enum-known-number
     clear-after-requires
+    cast-refused
     refused-requires
     same-length
     same-length-2

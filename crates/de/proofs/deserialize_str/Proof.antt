@@ -1,5 +1,6 @@
+use native.Mathlib.Omega.{arith}
 use borrow.Author.Needs.{needs}
-use Rattle.de.proofs.AfterReading.{readable-after, text-accepted, text-refused}
+use Rattle.de.proofs.AfterReading.{readable-after, place-bounded, text-accepted, text-refused}
 use Rattle.de.proofs.deserialize_str.Statement.{statement}
 use Rattle.de.proofs.deserialize_str.Tie as tie
 
@@ -22,6 +23,16 @@ text-answer-requires c κs = search needs
 
 enum-known-number : tie.Need-enum-known-number
 enum-known-number c = search needs
+
+cast-refused : tie.Need-cast-refused
+cast-refused c =
+    let at-parse = c .before .before .before .before .before .before .before in
+    let start = at-parse .before .before .before .before .before .before .before in
+    omega (
+      arith,
+      place-bounded (start .args .config) (start .args .input .now) (start .args .words .now) (start .args .text .now) _ _ (at-parse .parse .ensures)
+          (c .before .number .given .1),
+    )
 
 refused-requires : tie.Need-refused-requires
 refused-requires c κs = search needs
@@ -63,6 +74,7 @@ deserialize-str-spec =
     field-text-requires
     text-answer-requires
     enum-known-number
+    cast-refused
     refused-requires
     same-length
     same-length-2

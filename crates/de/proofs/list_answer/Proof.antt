@@ -1,9 +1,15 @@
+use native.Mathlib.Omega.{arith}
 use borrow.Author.Needs.{needs}
 use Rattle.de.proofs.list_answer.Statement.{statement}
 use Rattle.de.proofs.list_answer.Tie as tie
 
 enum-known-read : tie.Need-enum-known-read
 enum-known-read c = search needs
+
+cast-t7 : tie.Need-cast-t7
+cast-t7 c =
+    let start = c .before .before .before in
+    omega (arith, rw (c .before .read .given .1) at (start .pre))
 
 enum-known-read-2 : tie.Need-enum-known-read-2
 enum-known-read-2 c = search needs
@@ -27,6 +33,7 @@ list-answer-spec =
     tie.close
     (tie.spec
     enum-known-read
+    cast-t7
     enum-known-read-2
     code-requires
     refused-requires

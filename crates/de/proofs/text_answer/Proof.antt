@@ -5,12 +5,6 @@ use Rattle.de.proofs.text_answer.Tie as tie
 enum-known-read : tie.Need-enum-known-read
 enum-known-read c = search needs
 
-cast-t8 : tie.Need-cast-t8
-cast-t8 c = search needs
-
-cast-t9 : tie.Need-cast-t9
-cast-t9 c = search needs
-
 enum-known-read-2 : tie.Need-enum-known-read-2
 enum-known-read-2 c = search needs
 
@@ -33,8 +27,6 @@ text-answer-spec =
     tie.close
     (tie.spec
     enum-known-read
-    cast-t8
-    cast-t9
     enum-known-read-2
     code-requires
     refused-requires

@@ -24,19 +24,47 @@ returns-3 c = simp (le-ltb _ _ (c .before .before .if1 .left), lt-leb _ _ (c .be
 
 returns-4 : tie.Need-returns-4
 unfolding digitOf
-returns-4 c = simp (le-ltb _ _ (c .before .before .before .if1 .left), lt-leb _ _ (c .before .before .if2 .left), le-ltb _ _ (c .before .if3 .left), le-leb _ _ (c .if4 .taken))
+returns-4 c = simp (
+  le-ltb _ _ (c .before .before .before .if1 .left),
+  lt-leb _ _ (c .before .before .if2 .left),
+  le-ltb _ _ (c .before .if3 .left),
+  le-leb _ _ (c .if4 .taken),
+)
 
 returns-5 : tie.Need-returns-5
 unfolding digitOf
-returns-5 c = simp (le-ltb _ _ (c .before .before .before .before .if1 .left), lt-leb _ _ (c .before .before .before .if2 .left), le-ltb _ _ (c .before .before .if3 .left), lt-leb _ _ (c .before .if4 .left), lt-ltb _ _ (c .if5 .taken))
+returns-5 c = simp (
+  le-ltb _ _ (c .before .before .before .before .if1 .left),
+  lt-leb _ _ (c .before .before .before .if2 .left),
+  le-ltb _ _
+      (c .before .before .if3 .left),
+  lt-leb _ _ (c .before .if4 .left),
+  lt-ltb _ _ (c .if5 .taken),
+)
 
 returns-6 : tie.Need-returns-6
 unfolding digitOf
-returns-6 c = simp (le-ltb _ _ (c .before .before .before .before .before .if1 .left), lt-leb _ _ (c .before .before .before .before .if2 .left), le-ltb _ _ (c .before .before .before .if3 .left), lt-leb _ _ (c .before .before .if4 .left), le-ltb _ _ (c .before .if5 .left), le-leb _ _ (c .if6 .taken))
+returns-6 c = simp (
+  le-ltb _ _ (c .before .before .before .before .before .if1 .left),
+  lt-leb _ _ (c .before .before .before .before .if2 .left),
+  le-ltb _ _ (c .before .before .before .if3 .left),
+  lt-leb _ _ (c .before .before .if4 .left),
+  le-ltb _ _ (c .before .if5 .left),
+  le-leb _ _
+      (c .if6 .taken),
+)
 
 returns-7 : tie.Need-returns-7
 unfolding digitOf
-returns-7 c = simp (le-ltb _ _ (c .before .before .before .before .before .if1 .left), lt-leb _ _ (c .before .before .before .before .if2 .left), le-ltb _ _ (c .before .before .before .if3 .left), lt-leb _ _ (c .before .before .if4 .left), le-ltb _ _ (c .before .if5 .left), lt-leb _ _ (c .if6 .left))
+returns-7 c = simp (
+  le-ltb _ _ (c .before .before .before .before .before .if1 .left),
+  lt-leb _ _ (c .before .before .before .before .if2 .left),
+  le-ltb _ _ (c .before .before .before .if3 .left),
+  lt-leb _ _ (c .before .before .if4 .left),
+  le-ltb _ _ (c .before .if5 .left),
+  lt-leb _ _
+      (c .if6 .left),
+)
 
 pub char-to-hexdigit-spec : {M : Type 1} → statement M
 char-to-hexdigit-spec =

@@ -15,7 +15,12 @@ same-length : tie.Need-same-length
 same-length c = search needs
 
 returns : tie.Need-returns
-returns c = let e = sym (c .before .before .before .before .before .fits2 .ensures) ∙ c .before .before .before .before .if1 .taken in (simp e (ap Yes (c .before .before .write .ensures .0)), simp e (c .before .before .write .ensures .1))
+returns c = let e = sym (c .before .before .before .before .before .fits2 .ensures) ∙
+    c .before .before .before .before .if1 .taken in (
+      simp e (ap Yes (c .before .before .write .ensures .0)),
+      simp e
+          (c .before .before .write .ensures .1),
+    )
 
 returns-2 : tie.Need-returns-2
 returns-2 c = let e = sym (c .before .fits2 .ensures) ∙ c .if1 .left in (simp e, simp e)

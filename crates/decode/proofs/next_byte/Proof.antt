@@ -1,6 +1,5 @@
 use native.Mathlib.Omega.{arith}
 use mathlib.Core.Path.{_≡_}
-use Prim.Native.Nat.{ℕ}
 use Rattle.decode.proofs.Steps.{swallowed, unescaped}
 use borrow.Author.Needs.{needs}
 use Rattle.decode.proofs.next_byte.Statement.{statement}
@@ -31,7 +30,8 @@ add-t11 : tie.Need-add-t11
 add-t11 c = search needs
 
 returns-3 : tie.Need-returns-3
-returns-3 c = let s = c .before .before .before .before .before in unescaped (s .args .raw .now) (s .args .i) (s .pre) (s .args .keep) (c .before .before .if1 .left) (c .before .if2 .left) (c .plus-to-space .result) (c .plus-to-space .ensures)
+returns-3 c = let s = c .before .before .before .before .before in unescaped (s .args .raw .now) (s .args .i) (s .pre) (s .args .keep)
+    (c .before .before .if1 .left) (c .before .if2 .left) (c .plus-to-space .result) (c .plus-to-space .ensures)
 
 pub next-byte-spec : {M : Type 1} → statement M
 next-byte-spec =

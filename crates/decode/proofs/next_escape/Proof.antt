@@ -23,7 +23,8 @@ char-to-hexdigit-requires : tie.Need-char-to-hexdigit-requires
 char-to-hexdigit-requires c κs = search needs
 
 returns-2 : tie.Need-returns-2
-returns-2 c = let s = c .before .before .before .before .before in first-not-hex (s .args .raw .now) (s .args .i) (s .pre .0) (s .pre .1) (c .before .before .before .if1 .left) (omega arith)
+returns-2 c = let s = c .before .before .before .before .before in first-not-hex (s .args .raw .now) (s .args .i) (s .pre .0) (s .pre .1)
+    (c .before .before .before .if1 .left) (omega arith)
 
 add-char-to-hexdigit-2 : tie.Need-add-char-to-hexdigit-2
 add-char-to-hexdigit-2 c = search needs
@@ -35,7 +36,8 @@ char-to-hexdigit-requires-2 : tie.Need-char-to-hexdigit-requires-2
 char-to-hexdigit-requires-2 c κs = search needs
 
 returns-3 : tie.Need-returns-3
-returns-3 c = let s = c .before .before .before .before .before .before .before .before in second-not-hex (s .args .raw .now) (s .args .i) (s .pre .0) (s .pre .1) (c .before .before .before .before .before .before .if1 .left) (omega arith) (omega arith)
+returns-3 c = let s = c .before .before .before .before .before .before .before .before in second-not-hex (s .args .raw .now) (s .args .i) (s .pre .0)
+    (s .pre .1) (c .before .before .before .before .before .before .if1 .left) (omega arith) (omega arith)
 
 mul-t10 : tie.Need-mul-t10
 mul-t10 c = search needs
@@ -47,7 +49,8 @@ add-t6 : tie.Need-add-t6
 add-t6 c = search needs
 
 returns-4 : tie.Need-returns-4
-returns-4 c = let s = c .before .before .before .before .before .before .before .before in escape (s .args .raw .now) (s .args .i) (s .pre .0) (s .pre .1) (c .before .before .before .before .before .before .if1 .left) (omega arith) (omega arith) _ (omega arith)
+returns-4 c = let s = c .before .before .before .before .before .before .before .before in escape (s .args .raw .now) (s .args .i) (s .pre .0)
+    (s .pre .1) (c .before .before .before .before .before .before .if1 .left) (omega arith) (omega arith) _ (omega arith)
 
 pub next-escape-spec : {M : Type 1} → statement M
 next-escape-spec =

@@ -22,10 +22,12 @@ part-result-end : tie.Need-part-result-end
 part-result-end c = search needs
 
 returns-2 : tie.Need-returns-2
-returns-2 c = let s = c .before .before .before .before .before .before in let e : s .args .n - 0 ≡ s .args .n = omega arith in simp (e, sym (c .before .before .before .is-plain .ensures) ∙ c .before .before .if1 .left)
+returns-2 c = let s = c .before .before .before .before .before .before in let e : s .args .n - 0 ≡ s .args .n = omega arith in simp
+    (e, sym (c .before .before .before .is-plain .ensures) ∙ c .before .before .if1 .left)
 
 returns-3 : tie.Need-returns-3
-returns-3 c = let s = c .before .before .before .before .before in simp (sym (c .before .before .is-plain .ensures) ∙ c .before .if1 .left) (sym (take-all (s .args .n) (s .args .decoded .now) (omega arith)))
+returns-3 c = let s = c .before .before .before .before .before in simp (sym (c .before .before .is-plain .ensures) ∙ c .before .if1 .left)
+    (sym (take-all (s .args .n) (s .args .decoded .now) (omega arith)))
 
 pub shown-spec : {M : Type 1} → statement M
 shown-spec =

@@ -27,7 +27,8 @@ loop-less : tie.Need-loop-less Inv-loop μ-loop
 loop-less c = omega arith
 
 loop-again : tie.Need-loop-again Inv-loop μ-loop
-loop-again c = let v = c .before .before .loop .inv in writing-more v (c .next-byte .ensures) (writing-room v (c .next-byte .ensures) (c .before .before .before .before .before .pre))
+loop-again c = let v = c .before .before .loop .inv in writing-more v (c .next-byte .ensures)
+    (writing-room v (c .next-byte .ensures) (c .before .before .before .before .before .pre))
 
 same-length : tie.Need-same-length Inv-loop μ-loop
 same-length c = c .before .loop .inv .long

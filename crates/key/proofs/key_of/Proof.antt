@@ -21,10 +21,12 @@ shared-slice-read-b : tie.Need-shared-slice-read-b Inv-loop μ-loop
 shared-slice-read-b c = omega arith
 
 returns-2 : tie.Need-returns-2 Inv-loop μ-loop
-returns-2 c = below-digits (c .before .before .before .before .before .args .config) (c .before .before .before .loop .inv) (c .before .before .loop-test .taken) (c .if2 .taken)
+returns-2 c = below-digits (c .before .before .before .before .before .args .config) (c .before .before .before .loop .inv)
+    (c .before .before .loop-test .taken) (c .if2 .taken)
 
 returns-3 : tie.Need-returns-3 Inv-loop μ-loop
-returns-3 c = above-digits (c .before .before .before .before .before .before .args .config) (c .before .before .before .before .loop .inv) (c .before .before .before .loop-test .taken) (c .before .if2 .left) (c .if3 .taken)
+returns-3 c = above-digits (c .before .before .before .before .before .before .args .config) (c .before .before .before .before .loop .inv)
+    (c .before .before .before .loop-test .taken) (c .before .if2 .left) (c .if3 .taken)
 
 mul-value : tie.Need-mul-value Inv-loop μ-loop
 mul-value c = omega arith
@@ -36,7 +38,9 @@ add-value : tie.Need-add-value Inv-loop μ-loop
 add-value c = omega arith
 
 returns-4 : tie.Need-returns-4 Inv-loop μ-loop
-returns-4 c = above-int (c .before .before .before .before .before .before .before .args .config) (c .before .before .before .before .before .loop .inv) (c .before .before .before .before .loop-test .taken) (c .before .before .if2 .left) (c .before .if3 .left) (c .if4 .taken)
+returns-4 c = above-int (c .before .before .before .before .before .before .before .args .config)
+    (c .before .before .before .before .before .loop .inv) (c .before .before .before .before .loop-test .taken) (c .before .before .if2 .left)
+    (c .before .if3 .left) (c .if4 .taken)
 
 add-i : tie.Need-add-i Inv-loop μ-loop
 add-i c = omega arith
@@ -45,7 +49,8 @@ loop-less : tie.Need-loop-less Inv-loop μ-loop
 loop-less c = omega arith
 
 loop-again : tie.Need-loop-again Inv-loop μ-loop
-loop-again c = reading-more (c .before .before .before .before .before .loop .inv) (c .before .before .before .before .loop-test .taken) (c .before .before .if2 .left) (c .before .if3 .left) (c .if4 .left)
+loop-again c = reading-more (c .before .before .before .before .before .loop .inv) (c .before .before .before .before .loop-test .taken)
+    (c .before .before .if2 .left) (c .before .if3 .left) (c .if4 .left)
 
 cast-t14 : tie.Need-cast-t14 Inv-loop μ-loop
 cast-t14 c = omega arith

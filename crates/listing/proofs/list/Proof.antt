@@ -16,14 +16,36 @@ same-length c = omega arith
 
 returns : tie.Need-returns
 unfolding boundedListing
-returns c = let p = puts-then (c .before .before .before .before .before .before .before .write-answer .ensures) (c .before .before .before .write-values .ensures) in (all-fit _ _ _ _ p (omega (arith, c .if1 .taken, c .before .before .before .write-values .kept .1 .1 .1 .0, c .before .before .before .before .before .before .before .write-answer .kept .1 .1 .1 .1 .0)), all-filled _ _ _ _ p)
+returns c =
+    let at-write-values = c .before .before .before in
+    let at-write-answer = at-write-values .before .before .before .before in
+    let p = puts-then (at-write-answer .write-answer .ensures) (at-write-values .write-values .ensures) in (
+      all-fit _ _ _ _ p (omega (
+        arith,
+        c .if1 .taken,
+        at-write-values .write-values .kept .1 .1 .1 .0,
+        at-write-answer .write-answer .kept .1 .1 .1 .1 .0,
+      )),
+      all-filled _ _ _ _ p,
+    )
 
 same-length-2 : tie.Need-same-length-2
 same-length-2 c = omega arith
 
 returns-2 : tie.Need-returns-2
 unfolding boundedListing
-returns-2 c = let p = puts-then (c .before .before .before .before .before .before .before .write-answer .ensures) (c .before .before .before .write-values .ensures) in (some-cut _ _ _ _ p (omega (arith, c .if1 .left, c .before .before .before .write-values .kept .1 .1 .1 .0, c .before .before .before .before .before .before .before .write-answer .kept .1 .1 .1 .1 .0)), all-filled _ _ _ _ p)
+returns-2 c =
+    let at-write-values = c .before .before .before in
+    let at-write-answer = at-write-values .before .before .before .before in
+    let p = puts-then (at-write-answer .write-answer .ensures) (at-write-values .write-values .ensures) in (
+      some-cut _ _ _ _ p (omega (
+        arith,
+        c .if1 .left,
+        at-write-values .write-values .kept .1 .1 .1 .0,
+        at-write-answer .write-answer .kept .1 .1 .1 .1 .0,
+      )),
+      all-filled _ _ _ _ p,
+    )
 
 pub list-spec : {M : Type 1} → statement M
 list-spec =

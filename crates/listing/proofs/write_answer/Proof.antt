@@ -34,7 +34,12 @@ same-length c = omega arith
 
 returns : tie.Need-returns
 unfolding answerLines
-returns c = puts-then (puts-then (puts-then (c .before .before .before .before .before .before .before .before .before .before .before .before .before .before .before .before .before .write-number .ensures) (c .before .before .before .before .before .before .before .before .before .before .before .before .write-number2 .ensures)) (c .before .before .before .before .before .before .before .write-number3 .ensures)) (c .before .before .write-number4 .ensures)
+returns c =
+    let at-write-number3 = c .before .before .before .before .before .before .before in
+    let at-write-number2 = at-write-number3 .before .before .before .before .before in
+    let at-write-number = at-write-number2 .before .before .before .before .before in
+    puts-then (puts-then (puts-then (at-write-number .write-number .ensures) (at-write-number2 .write-number2 .ensures))
+    (at-write-number3 .write-number3 .ensures)) (c .before .before .write-number4 .ensures)
 
 pub write-answer-spec : {M : Type 1} → statement M
 write-answer-spec =

@@ -12,7 +12,16 @@ clear-text-requires : tie.Need-clear-text-requires
 clear-text-requires c κs = search needs
 
 parse-empty-requires : tie.Need-parse-empty-requires
-parse-empty-requires c κs = omega (arith, cleared-words (c .before .before .before .before .before .before .before .before .before .before .before .before .before .args .words .now) (c .before .before .before .before .before .before .before .before .before .before .before .before .before .args .text .now) _ _ (c .before .before .before .before .before .before .before .before .clear-words .ensures) (c .before .before .before .before .clear-text .ensures), c .before .before .before .before .before .before .before .before .before .before .before .before .before .pre .1)
+parse-empty-requires c κs =
+    let at-clear-text = c .before .before .before .before in
+    let at-clear-words = at-clear-text .before .before .before .before in
+    let start = at-clear-words .before .before .before .before .before in
+    omega (
+      arith,
+      cleared-words (start .args .words .now) (start .args .text .now) _ _ (at-clear-words .clear-words .ensures)
+          (at-clear-text .clear-text .ensures),
+      start .pre .1,
+    )
 
 same-length : tie.Need-same-length
 same-length c = search needs
@@ -21,10 +30,32 @@ same-length-2 : tie.Need-same-length-2
 same-length-2 c = search needs
 
 returns : tie.Need-returns
-returns c = empty-accepted (c .before .before .before .before .before .before .before .before .before .before .before .before .before .before .before .before .args .words .now) (c .before .before .before .before .before .before .before .before .before .before .before .before .before .before .before .before .args .text .now) _ _ (c .before .before .before .before .before .before .before .before .before .before .before .clear-words .ensures) (c .before .before .before .before .before .before .before .clear-text .ensures) (c .before .before .before .before .before .before .before .before .before .before .before .before .before .before .before .before .args .config) (c .before .before .before .before .before .before .before .before .before .before .before .before .before .before .before .before .args .input .now) (c .before .before .before .before .if1 .taken) (c .before .before .before .before .before .before .before .before .before .before .before .before .before .before .before .before .pre .1) (c .before .before .parse-empty .ensures)
+returns c =
+    let at-if1 = c .before .before .before .before in
+    let at-clear-text = at-if1 .before .before .before in
+    let at-clear-words = at-clear-text .before .before .before .before in
+    let start = at-clear-words .before .before .before .before .before in
+    empty-accepted (start .args .words .now) (start .args .text .now) _ _ (at-clear-words .clear-words .ensures) (at-clear-text .clear-text .ensures)
+    (start .args .config) (start .args .input .now) (at-if1 .if1 .taken) (start .pre .1) (c .before .before .parse-empty .ensures)
 
 parse-some-requires : tie.Need-parse-some-requires
-parse-some-requires c κs = (omega (arith, c .before .before .if1 .left), c .before .before .before .before .before .before .before .before .before .before .before .before .before .before .pre .0, omega (arith, cleared-words (c .before .before .before .before .before .before .before .before .before .before .before .before .before .before .args .words .now) (c .before .before .before .before .before .before .before .before .before .before .before .before .before .before .args .text .now) _ _ (c .before .before .before .before .before .before .before .before .before .clear-words .ensures) (c .before .before .before .before .before .clear-text .ensures), c .before .before .before .before .before .before .before .before .before .before .before .before .before .before .pre .1), words-zero (c .before .before .before .before .before .before .before .before .before .before .before .before .before .before .args .words .now) (c .before .before .before .before .before .before .before .before .before .before .before .before .before .before .args .text .now) _ _ (c .before .before .before .before .before .before .before .before .before .clear-words .ensures) (c .before .before .before .before .before .clear-text .ensures), text-zero (c .before .before .before .before .before .before .before .before .before .before .before .before .before .before .args .words .now) (c .before .before .before .before .before .before .before .before .before .before .before .before .before .before .args .text .now) _ _ (c .before .before .before .before .before .before .before .before .before .clear-words .ensures) (c .before .before .before .before .before .clear-text .ensures))
+parse-some-requires c κs =
+    let at-clear-text = c .before .before .before .before .before in
+    let at-clear-words = at-clear-text .before .before .before .before in
+    let start = at-clear-words .before .before .before .before .before in (
+      omega (arith, c .before .before .if1 .left),
+      start .pre .0,
+      omega (
+        arith,
+        cleared-words (start .args .words .now) (start .args .text .now) _ _ (at-clear-words .clear-words .ensures)
+            (at-clear-text .clear-text .ensures),
+        start .pre .1,
+      ),
+      words-zero (start .args .words .now) (start .args .text .now) _ _
+          (at-clear-words .clear-words .ensures) (at-clear-text .clear-text .ensures),
+      text-zero (start .args .words .now) (start .args .text .now) _ _
+          (at-clear-words .clear-words .ensures) (at-clear-text .clear-text .ensures),
+    )
 
 same-length-3 : tie.Need-same-length-3
 same-length-3 c = search needs
@@ -33,7 +64,13 @@ same-length-4 : tie.Need-same-length-4
 same-length-4 c = search needs
 
 returns-2 : tie.Need-returns-2
-returns-2 c = c .before .before .before .before .parse-some .ensures ∙ as-lent (c .before .before .before .before .before .before .before .before .before .before .before .before .before .before .before .before .before .before .before .args .words .now) (c .before .before .before .before .before .before .before .before .before .before .before .before .before .before .before .before .before .before .before .args .text .now) _ _ (c .before .before .before .before .before .before .before .before .before .before .before .before .before .before .clear-words .ensures) (c .before .before .before .before .before .before .before .before .before .before .clear-text .ensures) (c .before .before .before .before .before .before .before .before .before .before .before .before .before .before .before .before .before .before .before .args .config) (c .before .before .before .before .before .before .before .before .before .before .before .before .before .before .before .before .before .before .before .args .input .now)
+returns-2 c =
+    let at-parse-some = c .before .before .before .before in
+    let at-clear-text = at-parse-some .before .before .before .before .before .before in
+    let at-clear-words = at-clear-text .before .before .before .before in
+    let start = at-clear-words .before .before .before .before .before in
+    at-parse-some .parse-some .ensures ∙ as-lent (start .args .words .now) (start .args .text .now) _ _ (at-clear-words .clear-words .ensures)
+    (at-clear-text .clear-text .ensures) (start .args .config) (start .args .input .now)
 
 pub parse-cleared-spec : {M : Type 1} → statement M
 parse-cleared-spec =

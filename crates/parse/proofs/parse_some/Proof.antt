@@ -4,7 +4,9 @@ use Rattle.parse.proofs.parse_some.Statement.{statement}
 use Rattle.parse.proofs.parse_some.Tie as tie
 
 parse-pairs-requires : tie.Need-parse-pairs-requires
-parse-pairs-requires c κs = start-ready (c .before .before .before .before .before .args .config) (c .before .before .before .before .before .pre .1) (c .before .before .before .before .before .pre .2) (c .before .before .before .before .before .pre .3) (c .before .before .before .before .before .pre .4)
+parse-pairs-requires c κs =
+    let start = c .before .before .before .before .before in
+    start-ready (start .args .config) (start .pre .1) (start .pre .2) (start .pre .3) (start .pre .4)
 
 enum-known-here : tie.Need-enum-known-here
 enum-known-here c = search needs
@@ -25,7 +27,12 @@ same-length-2 : tie.Need-same-length-2
 same-length-2 c = search needs
 
 returns : tie.Need-returns
-returns c = some-accepted (c .before .before .before .before .before .before .before .before .before .before .before .before .before .args .config) (c .before .before .before .before .before .before .before .before .before .before .before .before .before .pre .1) (c .before .before .before .before .before .before .before .before .before .before .before .before .before .pre .2) (c .before .before .before .before .before .before .before .before .before .before .before .before .before .pre .3) (c .before .before .before .before .before .before .before .before .before .before .before .before .before .pre .4) (c .before .before .before .before .before .before .before .before .before .before .before .before .before .pre .0) _ _ (c .before .before .before .before .before .before .before .parse-pairs .kept .1 .1 .0) (c .before .before .before .before .before .before .before .parse-pairs .kept .1 .1 .1 .0) (c .before .before .before .before .before .before .before .parse-pairs .ensures) (c .before .here .given .1)
+returns c =
+    let at-parse-pairs = c .before .before .before .before .before .before .before in
+    let start = at-parse-pairs .before .before .before .before .before .before in
+    some-accepted (start .args .config) (start .pre .1) (start .pre .2) (start .pre .3) (start .pre .4) (start .pre .0) _ _
+    (at-parse-pairs .parse-pairs .kept .1 .1 .0) (at-parse-pairs .parse-pairs .kept .1 .1 .1 .0) (at-parse-pairs .parse-pairs .ensures)
+    (c .before .here .given .1)
 
 same-length-3 : tie.Need-same-length-3
 same-length-3 c = search needs
@@ -34,7 +41,14 @@ same-length-4 : tie.Need-same-length-4
 same-length-4 c = search needs
 
 returns-2 : tie.Need-returns-2
-returns-2 c = some-refused (c .before .before .before .before .before .before .before .before .before .before .before .before .before .before .before .before .before .before .before .before .before .args .config) (c .before .before .before .before .before .before .before .before .before .before .before .before .before .before .before .before .before .before .before .before .before .pre .1) (c .before .before .before .before .before .before .before .before .before .before .before .before .before .before .before .before .before .before .before .before .before .pre .2) (c .before .before .before .before .before .before .before .before .before .before .before .before .before .before .before .before .before .before .before .before .before .pre .3) (c .before .before .before .before .before .before .before .before .before .before .before .before .before .before .before .before .before .before .before .before .before .pre .4) (c .before .before .before .before .before .before .before .before .before .before .before .before .before .before .before .before .before .before .before .before .before .pre .0) _ _ (c .before .before .before .before .before .before .before .before .before .before .before .before .before .before .before .parse-pairs .kept .1 .1 .0) (c .before .before .before .before .before .before .before .before .before .before .before .before .before .before .before .parse-pairs .kept .1 .1 .1 .0) (c .before .before .before .before .before .before .before .before .before .before .before .before .before .before .before .parse-pairs .ensures) (c .before .before .before .before .before .before .before .before .before .number .given .1) (c .before .before .before .before .before .before .clear-words .ensures) (c .before .before .clear-text .ensures)
+returns-2 c =
+    let at-clear-words = c .before .before .before .before .before .before in
+    let at-number = at-clear-words .before .before .before in
+    let at-parse-pairs = at-number .before .before .before .before .before .before in
+    let start = at-parse-pairs .before .before .before .before .before .before in
+    some-refused (start .args .config) (start .pre .1) (start .pre .2) (start .pre .3) (start .pre .4) (start .pre .0) _ _
+    (at-parse-pairs .parse-pairs .kept .1 .1 .0) (at-parse-pairs .parse-pairs .kept .1 .1 .1 .0) (at-parse-pairs .parse-pairs .ensures)
+    (at-number .number .given .1) (at-clear-words .clear-words .ensures) (c .before .before .clear-text .ensures)
 
 pub parse-some-spec : {M : Type 1} → statement M
 parse-some-spec =

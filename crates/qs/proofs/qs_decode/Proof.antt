@@ -18,9 +18,10 @@ enum-known-n c = search needs
 -- A slice is shorter than 2 ^ 63 bytes, and so is what fits it.
 small : (c : tie.After-known-told) → c .before .n .given .0 .0 < 2 ^ 63
 small c =
-    let s = c .before .before .before .before .before .before .before .before .before in
-    let n = c .before .n .given in
-    omega (arith, s .good .1 .0 .1, answer-fits (s .args .raw .now) (s .args .out .now) (n .0 .0) (sym (c .before .before .before .before .before .decode .ensures .0) ∙ n .1))
+    let at-decode = c .before .before .before .before .before in
+    let at-here = at-decode .before .before .before .before in
+    let s = at-here in let n = c .before .n .given in omega
+    (arith, s .good .1 .0 .1, answer-fits (s .args .raw .now) (s .args .out .now) (n .0 .0) (sym (at-decode .decode .ensures .0) ∙ n .1))
 
 cast-result : tie.Need-cast-result
 cast-result c = record { sfits = small c }
@@ -32,13 +33,17 @@ same-length : tie.Need-same-length
 same-length c = search needs
 
 returns : tie.Need-returns
-returns c = let d = c .before .before .before .before .before .decode .ensures in (toZ-pos w64 (small c) ∙ ap lengthOrNo (sym (c .before .n .given .1) ∙ d .0), d .1)
+returns c =
+    let at-decode = c .before .before .before .before .before in
+    let d = at-decode .decode .ensures in (toZ-pos w64 (small c) ∙ ap lengthOrNo (sym (c .before .n .given .1) ∙ d .0), d .1)
 
 same-length-2 : tie.Need-same-length-2
 same-length-2 c = search needs
 
 returns-2 : tie.Need-returns-2
-returns-2 c = let d = c .before .before .before .before .decode .ensures in (ap lengthOrNo (sym (c .enum-told .given .1) ∙ d .0), d .1)
+returns-2 c =
+    let at-decode = c .before .before .before .before in
+    let d = at-decode .decode .ensures in (ap lengthOrNo (sym (c .enum-told .given .1) ∙ d .0), d .1)
 
 pub qs-decode-spec : {M : Type 1} → statement M
 qs-decode-spec =

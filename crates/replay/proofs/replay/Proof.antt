@@ -6,7 +6,8 @@ use Rattle.replay.proofs.replay.Statement.{statement}
 use Rattle.replay.proofs.replay.Tie as tie
 
 abbrev Inv-loop : tie.InvT-loop
-Inv-loop count query₀ left₀ words₀ text₀ done₀ differ₀ t8 t9 query left words text done differ = (done ≤ count) × (differ ≤ done) × (length query ≡ length query₀) × (length left ≡ length left₀) × (length words ≡ length words₀) × (length text ≡ length text₀)
+Inv-loop count query₀ left₀ words₀ text₀ done₀ differ₀ t8 t9 query left words text done differ = (done ≤ count) × (differ ≤ done) ×
+    (length query ≡ length query₀) × (length left ≡ length left₀) × (length words ≡ length words₀) × (length text ≡ length text₀)
 
 abbrev μ-loop : tie.MeasureT-loop
 μ-loop count query₀ left₀ words₀ text₀ done₀ differ₀ t8 t9 query left words text done differ = count - done

@@ -23,27 +23,36 @@ stops-of-requires c κs = search needs
 loop-holds : tie.Need-loop-holds Inv-loop μ-loop
 loop-holds c = λ until e. passing-start (c .before .before .pre)
 
-next-requires : tie.Need-next-requires Inv-loop μ-loop
-next-requires c κs = c .loop .inv (c .before .before .before .args .until) (c .before .stops-of .ensures) .inside
+take-requires : tie.Need-take-requires Inv-loop μ-loop
+take-requires c κs =
+    let start = c .before .before .before in
+    c .loop .inv (start .args .until) (c .before .stops-of .ensures) .inside
 
 stops-at-requires : tie.Need-stops-at-requires Inv-loop μ-loop
 stops-at-requires c κs = search needs
 
 returns : tie.Need-returns Inv-loop μ-loop
 returns c =
-    let e = c .before .before .before .before .stops-of .ensures in
-    let v = c .before .before .before .loop .inv (c .before .before .before .before .before .before .args .until) e in
-    passing-done v (c .before .before .next .ensures) e (c .before .stops-at .ensures) (c .if1 .taken)
+    let at-loop = c .before .before .before in
+    let at-stops-of = at-loop .before in
+    let start = at-stops-of .before .before in
+    let e = at-stops-of .stops-of .ensures in let v = at-loop .loop .inv (start .args .until) e in passing-done v (c .before .before .take .ensures) e
+    (c .before .stops-at .ensures) (c .if1 .taken)
 
 loop-less : tie.Need-loop-less Inv-loop μ-loop
 loop-less c =
-    let e = c .before .before .before .before .before .stops-of .ensures in
-    let v = c .before .before .before .before .loop .inv (c .before .before .before .before .before .before .before .args .until) e in
-    omega (arith, v .inside, next-bounds (c .before .before .before .next .ensures) .on)
+    let at-take = c .before .before .before in
+    let at-loop = at-take .before in
+    let at-stops-of = at-loop .before in
+    let start = at-stops-of .before .before in
+    let e = at-stops-of .stops-of .ensures in let v = at-loop .loop .inv (start .args .until) e in omega
+    (arith, v .inside, next-bounds (at-take .take .ensures) .on)
 
 loop-again : tie.Need-loop-again Inv-loop μ-loop
-loop-again c = λ until e.
-    passing-more (c .before .before .before .before .loop .inv until e) (c .before .before .before .next .ensures) e (c .before .before .stops-at .ensures) (c .before .if1 .left)
+loop-again c =
+    let at-take = c .before .before .before in
+    let at-loop = at-take .before in
+    λ until e. passing-more (at-loop .loop .inv until e) (at-take .take .ensures) e (c .before .before .stops-at .ensures) (c .before .if1 .left)
 
 pub take-until-spec : {M : Type 1} → statement M
 take-until-spec =
@@ -53,7 +62,7 @@ take-until-spec =
     μ-loop
     stops-of-requires
     loop-holds
-    next-requires
+    take-requires
     stops-at-requires
     returns
     loop-less

@@ -5,8 +5,8 @@ use Rattle.de.proofs.Fields.{field-inside}
 use Rattle.de.proofs.list.field_list.Statement.{statement}
 use Rattle.de.proofs.list.field_list.Tie as tie
 
-clear-requires : tie.Need-clear-requires
-clear-requires c κs = search needs
+clear-words-requires : tie.Need-clear-words-requires
+clear-words-requires c κs = search needs
 
 root-field-requires : tie.Need-root-field-requires
 root-field-requires c κs = search needs
@@ -18,13 +18,13 @@ read-or-clear-requires : tie.Need-read-or-clear-requires
 read-or-clear-requires c κs =
     let at-n = c .before .before in
     let at-root-field = at-n .before .before in
-    let at-clear = at-root-field .before .before .before in
-    let start = at-clear .before .before .before .before .before .before in (
+    let at-clear-words = at-root-field .before .before .before in
+    let start = at-clear-words .before .before .before .before .before .before in (
       start .pre .0,
       (
         field-inside (start .args .words .now) (start .args .text .now) (start .args .name .now) _ (start .pre .0 .formed .links)
             (start .pre .1) (sym (at-n .n .given .1) ∙ at-root-field .root-field .ensures),
-        zero-list (start .args .list .now) (at-clear .clear .ensures),
+        zero-list (start .args .list .now) (at-clear-words .clear-words .ensures),
       ),
     )
 
@@ -39,9 +39,9 @@ returns c =
     let at-read-or-clear = c .before .before in
     let at-n = at-read-or-clear .before .before .before in
     let at-root-field = at-n .before .before in
-    let at-clear = at-root-field .before .before .before in
-    let start = at-clear .before .before .before .before .before .before in
-    field-found (start .args .duplicates) (start .args .words .now) (start .args .text .now) (start .args .list .now) (at-clear .clear .ensures)
+    let at-clear-words = at-root-field .before .before .before in
+    let start = at-clear-words .before .before .before .before .before .before in
+    field-found (start .args .duplicates) (start .args .words .now) (start .args .text .now) (start .args .list .now) (at-clear-words .clear-words .ensures)
     (sym (at-root-field .root-field .ensures) ∙ at-n .n .given .1) (at-read-or-clear .read-or-clear .ensures)
 
 same-length-2 : tie.Need-same-length-2
@@ -50,16 +50,16 @@ same-length-2 c = search needs
 returns-2 : tie.Need-returns-2
 returns-2 c =
     let at-root-field = c .before .before .before in
-    let at-clear = at-root-field .before .before .before in
-    let start = at-clear .before .before .before .before .before .before in
-    field-none (start .args .duplicates) (start .args .words .now) (start .args .text .now) (start .args .list .now) (at-clear .clear .ensures) (sym
+    let at-clear-words = at-root-field .before .before .before in
+    let start = at-clear-words .before .before .before .before .before .before in
+    field-none (start .args .duplicates) (start .args .words .now) (start .args .text .now) (start .args .list .now) (at-clear-words .clear-words .ensures) (sym
     (at-root-field .root-field .ensures) ∙ c .before .refusal .given .1)
 
 pub field-list-spec : {M : Type 1} → statement M
 field-list-spec =
     tie.close
     (tie.spec
-    clear-requires
+    clear-words-requires
     root-field-requires
     enum-known-n
     read-or-clear-requires

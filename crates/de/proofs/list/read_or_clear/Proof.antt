@@ -12,8 +12,8 @@ enum-known-count c = search needs
 enum-known-refusal : tie.Need-enum-known-refusal
 enum-known-refusal c = search needs
 
-clear-requires : tie.Need-clear-requires
-clear-requires c κs = search needs
+clear-words-requires : tie.Need-clear-words-requires
+clear-words-requires c κs = search needs
 
 same-length : tie.Need-same-length
 same-length c = search needs
@@ -28,10 +28,10 @@ same-length-2 c = search needs
 
 returns-2 : tie.Need-returns-2
 returns-2 c =
-    let at-clear = c .before .before in
-    let at-refusal = at-clear .before .before .before in
+    let at-clear-words = c .before .before in
+    let at-refusal = at-clear-words .before .before .before in
     let at-read-list = at-refusal .before .before .before .before in
-    leaves-cleared (at-refusal .refusal .given .1) (at-read-list .read-list .ensures) (at-clear .clear .ensures)
+    leaves-cleared (at-refusal .refusal .given .1) (at-read-list .read-list .ensures) (at-clear-words .clear-words .ensures)
 
 pub read-or-clear-spec : {M : Type 1} → statement M
 read-or-clear-spec =
@@ -40,7 +40,7 @@ read-or-clear-spec =
     read-list-requires
     enum-known-count
     enum-known-refusal
-    clear-requires
+    clear-words-requires
     same-length
     returns
     same-length-2

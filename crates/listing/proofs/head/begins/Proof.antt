@@ -26,7 +26,11 @@ shared-slice-read-if2-2 : tie.Need-shared-slice-read-if2-2 Inv-loop μ-loop
 shared-slice-read-if2-2 c = omega arith
 
 returns-2 : tie.Need-returns-2 Inv-loop μ-loop
-returns-2 c = sym (begins-other _ _ _ (c .before .before .before .before .loop-test .taken) (c .before .before .before .if1 .left) (c .if2 .taken)) ∙ c .before .before .before .before .before .loop .inv
+returns-2 c =
+    let at-if1 = c .before .before .before in
+    let at-loop-test = at-if1 .before in
+    let at-loop = at-loop-test .before in
+    sym (begins-other _ _ _ (at-loop-test .loop-test .taken) (at-if1 .if1 .left) (c .if2 .taken)) ∙ at-loop .loop .inv
 
 add-i : tie.Need-add-i Inv-loop μ-loop
 add-i c = omega arith
@@ -35,7 +39,11 @@ loop-less : tie.Need-loop-less Inv-loop μ-loop
 loop-less c = omega arith
 
 loop-again : tie.Need-loop-again Inv-loop μ-loop
-loop-again c = begins-more _ _ _ (c .before .before .before .before .loop-test .taken) (c .before .before .before .if1 .left) (c .if2 .left) ∙ c .before .before .before .before .before .loop .inv
+loop-again c =
+    let at-if1 = c .before .before .before in
+    let at-loop-test = at-if1 .before in
+    let at-loop = at-loop-test .before in
+    begins-more _ _ _ (at-loop-test .loop-test .taken) (at-if1 .if1 .left) (c .if2 .left) ∙ at-loop .loop .inv
 
 returns-3 : tie.Need-returns-3 Inv-loop μ-loop
 returns-3 c = sym (begins-done _ _ _ (c .loop-test .left)) ∙ c .before .loop .inv

@@ -20,10 +20,31 @@ shared-slice-read-b : tie.Need-shared-slice-read-b Inv-loop μ-loop
 shared-slice-read-b c = omega arith
 
 returns : tie.Need-returns Inv-loop μ-loop
-returns c = (omega (arith, c .before .before .before .loop .inv .0, ap length (digits-low (c .before .before .before .before .args .bytes .now) (c .before .before .before .loop .i) (c .before .before .loop-test .taken) (c .if1 .taken))), c .before .before .before .loop .inv .1)
+returns c =
+    let at-loop = c .before .before .before in
+    let start = at-loop .before in (
+      omega (
+        arith,
+        at-loop .loop .inv .0,
+        ap length
+            (digits-low (start .args .bytes .now) (at-loop .loop .i) (c .before .before .loop-test .taken) (c .if1 .taken)),
+      ),
+      at-loop .loop .inv .1,
+    )
 
 returns-2 : tie.Need-returns-2 Inv-loop μ-loop
-returns-2 c = (omega (arith, c .before .before .before .before .loop .inv .0, ap length (digits-high (c .before .before .before .before .before .args .bytes .now) (c .before .before .before .before .loop .i) (c .before .before .before .loop-test .taken) (c .before .if1 .left) (c .if2 .taken))), c .before .before .before .before .loop .inv .1)
+returns-2 c =
+    let at-loop-test = c .before .before .before in
+    let at-loop = at-loop-test .before in
+    let start = at-loop .before in (
+      omega (
+        arith,
+        at-loop .loop .inv .0,
+        ap length
+            (digits-high (start .args .bytes .now) (at-loop .loop .i) (at-loop-test .loop-test .taken) (c .before .if1 .left) (c .if2 .taken)),
+      ),
+      at-loop .loop .inv .1,
+    )
 
 add-i : tie.Need-add-i Inv-loop μ-loop
 add-i c = omega arith
@@ -32,10 +53,26 @@ loop-less : tie.Need-loop-less Inv-loop μ-loop
 loop-less c = omega arith
 
 loop-again : tie.Need-loop-again Inv-loop μ-loop
-loop-again c = (omega (arith, c .before .before .before .before .loop .inv .0, ap length (digits-more (c .before .before .before .before .before .args .bytes .now) (c .before .before .before .before .loop .i) (c .before .before .before .loop-test .taken) (c .before .if1 .left) (c .if2 .left))), omega (arith, c .before .before .before .loop-test .taken))
+loop-again c =
+    let at-loop-test = c .before .before .before in
+    let at-loop = at-loop-test .before in
+    let start = at-loop .before in (
+      omega (
+        arith,
+        at-loop .loop .inv .0,
+        ap length
+            (digits-more (start .args .bytes .now) (at-loop .loop .i) (at-loop-test .loop-test .taken) (c .before .if1 .left) (c .if2 .left)),
+      ),
+      omega
+          (arith, at-loop-test .loop-test .taken),
+    )
 
 returns-3 : tie.Need-returns-3 Inv-loop μ-loop
-returns-3 c = (omega (arith, c .before .loop .inv .0, ap length (digits-done (c .before .before .args .bytes .now) (c .before .loop .i) (c .loop-test .left))), c .before .loop .inv .1)
+returns-3 c =
+    let at-loop = c .before in (
+      omega (arith, at-loop .loop .inv .0, ap length (digits-done (c .before .before .args .bytes .now) (at-loop .loop .i) (c .loop-test .left))),
+      at-loop .loop .inv .1,
+    )
 
 pub count-digits-spec : {M : Type 1} → statement M
 count-digits-spec =

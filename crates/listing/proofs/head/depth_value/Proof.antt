@@ -8,7 +8,9 @@ digit-at-requires : tie.Need-digit-at-requires
 digit-at-requires c κs = search needs
 
 returns : tie.Need-returns
-returns c = value-one (c .before .before .before .args .digits .now) (c .if1 .taken) (c .before .digit-at .ensures .0)
+returns c =
+    let start = c .before .before .before in
+    value-one (start .args .digits .now) (c .if1 .taken) (c .before .digit-at .ensures .0)
 
 mul-second : tie.Need-mul-second
 mul-second c = omega arith
@@ -20,7 +22,10 @@ add-second : tie.Need-add-second
 add-second c = omega arith
 
 returns-2 : tie.Need-returns-2
-returns-2 c = value-two (c .before .before .before .before .before .args .digits .now) (c .if2 .taken) (c .before .before .before .digit-at .ensures .0) (c .before .digit-at2 .ensures .0)
+returns-2 c =
+    let at-digit-at = c .before .before .before in
+    let start = at-digit-at .before .before in
+    value-two (start .args .digits .now) (c .if2 .taken) (at-digit-at .digit-at .ensures .0) (c .before .digit-at2 .ensures .0)
 
 mul-result : tie.Need-mul-result
 mul-result c = omega arith
@@ -32,7 +37,12 @@ add-result : tie.Need-add-result
 add-result c = omega arith
 
 returns-3 : tie.Need-returns-3
-returns-3 c = value-three (c .before .before .before .before .before .before .args .digits .now) (omega (arith, c .before .before .before .before .before .before .pre .1, c .before .before .before .before .before .before .pre .2, c .before .before .before .if1 .left, c .before .if2 .left)) (c .before .before .before .before .digit-at .ensures .0) (c .before .before .digit-at2 .ensures .0) (c .digit-at3 .ensures .0)
+returns-3 c =
+    let at-if1 = c .before .before .before in
+    let at-digit-at = at-if1 .before in
+    let start = at-digit-at .before .before in
+    value-three (start .args .digits .now) (omega (arith, start .pre .1, start .pre .2, at-if1 .if1 .left, c .before .if2 .left))
+    (at-digit-at .digit-at .ensures .0) (c .before .before .digit-at2 .ensures .0) (c .digit-at3 .ensures .0)
 
 pub depth-value-spec : {M : Type 1} → statement M
 depth-value-spec =

@@ -20,10 +20,20 @@ is-depth-requires : tie.Need-is-depth-requires
 is-depth-requires c κs = tt
 
 returns : tie.Need-returns
-returns c = no-depth (c .before .before .before .before .before .args .bytes .now) (c .before .before .before .count-digits .ensures .0) (c .before .is-depth .ensures) (not-true (c .before .is-depth .result) (c .if1 .taken))
+returns c =
+    let at-is-depth = c .before in
+    let at-count-digits = at-is-depth .before .before in
+    let start = at-count-digits .before .before in
+    no-depth (start .args .bytes .now) (at-count-digits .count-digits .ensures .0) (at-is-depth .is-depth .ensures)
+    (not-true (at-is-depth .is-depth .result) (c .if1 .taken))
 
 depth-value-requires : tie.Need-depth-value-requires
-depth-value-requires c κs = depth-digits (c .before .before .before .before .before .args .bytes .now) (c .before .before .before .count-digits .ensures .0) (c .before .is-depth .ensures) (not-false (c .before .is-depth .result) (c .if1 .left))
+depth-value-requires c κs =
+    let at-is-depth = c .before in
+    let at-count-digits = at-is-depth .before .before in
+    let start = at-count-digits .before .before in
+    depth-digits (start .args .bytes .now) (at-count-digits .count-digits .ensures .0) (at-is-depth .is-depth .ensures)
+    (not-false (at-is-depth .is-depth .result) (c .if1 .left))
 
 add-parse-flag : tie.Need-add-parse-flag
 add-parse-flag c = omega arith
@@ -41,7 +51,13 @@ parse-flag-requires : tie.Need-parse-flag-requires
 parse-flag-requires c κs = tt
 
 returns-2 : tie.Need-returns-2
-returns-2 c = a-depth (c .before .before .before .before .before .before .before .before .args .bytes .now) (c .before .before .before .before .before .before .count-digits .ensures .0) (c .before .before .before .before .is-depth .ensures) (not-false (c .before .before .before .before .is-depth .result) (c .before .before .before .if1 .left)) (c .before .before .depth-value .ensures) (c .parse-flag .ensures)
+returns-2 c =
+    let at-if1 = c .before .before .before in
+    let at-is-depth = at-if1 .before in
+    let at-count-digits = at-is-depth .before .before in
+    let start = at-count-digits .before .before in
+    a-depth (start .args .bytes .now) (at-count-digits .count-digits .ensures .0) (at-is-depth .is-depth .ensures)
+    (not-false (at-is-depth .is-depth .result) (at-if1 .if1 .left)) (c .before .before .depth-value .ensures) (c .parse-flag .ensures)
 
 pub parse-depth-spec : {M : Type 1} → statement M
 parse-depth-spec =

@@ -12,13 +12,22 @@ begins-requires : tie.Need-begins-requires
 begins-requires c κs = tt
 
 returns : tie.Need-returns
-returns c = no-head (c .before .before .before .before .args .input .now) (c .before .begins .ensures) (not-true (c .before .begins .result) (c .if1 .taken))
+returns c =
+    let at-begins = c .before in
+    let start = at-begins .before .before .before in
+    no-head (start .args .input .now) (at-begins .begins .ensures) (not-true (at-begins .begins .result) (c .if1 .taken))
 
 sub-parse-depth : tie.Need-sub-parse-depth
-sub-parse-depth c = head-long (c .before .before .before .before .args .input .now) (c .before .begins .ensures) (not-false (c .before .begins .result) (c .if1 .left))
+sub-parse-depth c =
+    let at-begins = c .before in
+    let start = at-begins .before .before .before in
+    head-long (start .args .input .now) (at-begins .begins .ensures) (not-false (at-begins .begins .result) (c .if1 .left))
 
 part-parse-depth-start : tie.Need-part-parse-depth-start
-part-parse-depth-start c = omega (arith, head-long (c .before .before .before .before .args .input .now) (c .before .begins .ensures) (not-false (c .before .begins .result) (c .if1 .left)))
+part-parse-depth-start c =
+    let at-begins = c .before in
+    let start = at-begins .before .before .before in
+    omega (arith, head-long (start .args .input .now) (at-begins .begins .ensures) (not-false (at-begins .begins .result) (c .if1 .left)))
 
 part-parse-depth-end : tie.Need-part-parse-depth-end
 part-parse-depth-end c = omega arith
@@ -27,7 +36,11 @@ parse-depth-requires : tie.Need-parse-depth-requires
 parse-depth-requires c κs = tt
 
 returns-2 : tie.Need-returns-2
-returns-2 c = a-head (c .before .before .before .before .before .before .args .input .now) (c .before .before .before .begins .ensures) (not-false (c .before .before .before .begins .result) (c .before .before .if1 .left)) (c .parse-depth .ensures)
+returns-2 c =
+    let at-begins = c .before .before .before in
+    let start = at-begins .before .before .before in
+    a-head (start .args .input .now) (at-begins .begins .ensures) (not-false (at-begins .begins .result) (c .before .before .if1 .left))
+    (c .parse-depth .ensures)
 
 pub parse-head-spec : {M : Type 1} → statement M
 parse-head-spec =

@@ -12,7 +12,11 @@ same-length : tie.Need-same-length
 same-length c = omega arith
 
 returns : tie.Need-returns
-returns c = let s = c .before .before .before .before .before .before .before .before .args in puts-same (c .before .before .write-byte .ensures) (no-key (s .words .now) (s .text .now) (s .n) (s .keyed) (not-true (s .keyed) (c .before .before .before .before .if1 .taken)))
+returns c =
+    let at-if1 = c .before .before .before .before in
+    let start = at-if1 .before .before .before .before in
+    let s = start .args in puts-same (c .before .before .write-byte .ensures)
+    (no-key (s .words .now) (s .text .now) (s .n) (s .keyed) (not-true (s .keyed) (at-if1 .if1 .taken)))
 
 get-word-requires : tie.Need-get-word-requires
 get-word-requires c κs = omega arith
@@ -33,7 +37,16 @@ same-length-2 : tie.Need-same-length-2
 same-length-2 c = omega arith
 
 returns-2 : tie.Need-returns-2
-returns-2 c = let s = c .before .before .before .before .before .before .before .before .before .before .before .before .before .before .before .args in puts-same (puts-then (c .before .before .before .before .before .before .write-byte2 .ensures) (c .before .before .write-decimal .ensures)) (int-key (s .words .now) (s .text .now) (s .n) (s .keyed) _ _ (not-false (s .keyed) (c .before .before .before .before .before .before .before .before .before .before .before .if1 .left)) (c .before .before .before .before .before .before .before .before .before .before .get-word .ensures) (c .before .before .before .before .before .before .before .before .if2 .taken) (c .before .before .before .before .before .before .before .before .before .get-word2 .ensures))
+returns-2 c =
+    let at-write-byte2 = c .before .before .before .before .before .before in
+    let at-if2 = at-write-byte2 .before .before in
+    let at-get-word2 = at-if2 .before in
+    let at-get-word = at-get-word2 .before in
+    let at-if1 = at-get-word .before in
+    let start = at-if1 .before .before .before .before in
+    let s = start .args in puts-same (puts-then (at-write-byte2 .write-byte2 .ensures) (c .before .before .write-decimal .ensures))
+    (int-key (s .words .now) (s .text .now) (s .n) (s .keyed) _ _ (not-false (s .keyed) (at-if1 .if1 .left)) (at-get-word .get-word .ensures)
+    (at-if2 .if2 .taken) (at-get-word2 .get-word2 .ensures))
 
 get-word-requires-3 : tie.Need-get-word-requires-3
 get-word-requires-3 c κs = omega arith
@@ -51,7 +64,18 @@ same-length-3 : tie.Need-same-length-3
 same-length-3 c = omega arith
 
 returns-3 : tie.Need-returns-3
-returns-3 c = let s = c .before .before .before .before .before .before .before .before .before .before .before .before .before .before .before .before .before .args in puts-same (puts-then (c .before .before .before .before .before .before .before .write-byte3 .ensures) (c .before .before .write-hex .ensures)) (string-key (s .words .now) (s .text .now) (s .n) (s .keyed) _ _ _ _ (not-false (s .keyed) (c .before .before .before .before .before .before .before .before .before .before .before .before .before .if1 .left)) (c .before .before .before .before .before .before .before .before .before .before .before .before .get-word .ensures) (c .before .before .before .before .before .before .before .before .before .before .if2 .left) (c .before .before .before .before .before .before .before .before .before .before .before .get-word2 .ensures) (c .before .before .before .before .before .before .before .before .before .get-word3 .ensures) (c .before .before .before .before .text-part .ensures))
+returns-3 c =
+    let at-text-part = c .before .before .before .before in
+    let at-write-byte3 = at-text-part .before .before .before in
+    let at-get-word3 = at-write-byte3 .before .before in
+    let at-if2 = at-get-word3 .before in
+    let at-get-word2 = at-if2 .before in
+    let at-get-word = at-get-word2 .before in
+    let at-if1 = at-get-word .before in
+    let start = at-if1 .before .before .before .before in
+    let s = start .args in puts-same (puts-then (at-write-byte3 .write-byte3 .ensures) (c .before .before .write-hex .ensures))
+    (string-key (s .words .now) (s .text .now) (s .n) (s .keyed) _ _ _ _ (not-false (s .keyed) (at-if1 .if1 .left)) (at-get-word .get-word .ensures)
+    (at-if2 .if2 .left) (at-get-word2 .get-word2 .ensures) (at-get-word3 .get-word3 .ensures) (at-text-part .text-part .ensures))
 
 pub write-key-spec : {M : Type 1} → statement M
 write-key-spec =

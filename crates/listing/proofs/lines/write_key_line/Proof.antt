@@ -20,7 +20,10 @@ same-length : tie.Need-same-length
 same-length c = omega arith
 
 returns : tie.Need-returns
-returns c = puts-then (puts-then (c .before .before .before .before .before .before .before .before .before .before .write-bytes .ensures) (c .before .before .before .before .before .before .write-key .ensures)) (c .before .before .write-byte .ensures)
+returns c =
+    let at-write-key = c .before .before .before .before .before .before in
+    let at-write-bytes = at-write-key .before .before .before .before in
+    puts-then (puts-then (at-write-bytes .write-bytes .ensures) (at-write-key .write-key .ensures)) (c .before .before .write-byte .ensures)
 
 pub write-key-line-spec : {M : Type 1} → statement M
 write-key-line-spec =

@@ -14,7 +14,9 @@ same-length : tie.Need-same-length
 same-length c = c .before .before .write-bytes .kept .1 .0
 
 returns : tie.Need-returns
-returns c = puts-same (c .before .before .write-bytes .ensures) (name-is (c .before .before .before .before .before .if1 .taken))
+returns c =
+    let at-if1 = c .before .before .before .before .before in
+    puts-same (c .before .before .write-bytes .ensures) (name-is (at-if1 .if1 .taken))
 
 slice-aggregate-write-bytes-2 : tie.Need-slice-aggregate-write-bytes-2
 slice-aggregate-write-bytes-2 c = refl
@@ -26,7 +28,9 @@ same-length-2 : tie.Need-same-length-2
 same-length-2 c = c .before .before .write-bytes2 .kept .1 .0
 
 returns-2 : tie.Need-returns-2
-returns-2 c = puts-same (c .before .before .write-bytes2 .ensures) (name-is (c .before .before .before .before .before .if2 .taken))
+returns-2 c =
+    let at-if2 = c .before .before .before .before .before in
+    puts-same (c .before .before .write-bytes2 .ensures) (name-is (at-if2 .if2 .taken))
 
 slice-aggregate-write-bytes-3 : tie.Need-slice-aggregate-write-bytes-3
 slice-aggregate-write-bytes-3 c = refl
@@ -38,7 +42,9 @@ same-length-3 : tie.Need-same-length-3
 same-length-3 c = c .before .before .write-bytes3 .kept .1 .0
 
 returns-3 : tie.Need-returns-3
-returns-3 c = puts-same (c .before .before .write-bytes3 .ensures) (name-is (c .before .before .before .before .before .if3 .taken))
+returns-3 c =
+    let at-if3 = c .before .before .before .before .before in
+    puts-same (c .before .before .write-bytes3 .ensures) (name-is (at-if3 .if3 .taken))
 
 slice-aggregate-write-bytes-4 : tie.Need-slice-aggregate-write-bytes-4
 slice-aggregate-write-bytes-4 c = refl
@@ -50,7 +56,9 @@ same-length-4 : tie.Need-same-length-4
 same-length-4 c = c .before .before .write-bytes4 .kept .1 .0
 
 returns-4 : tie.Need-returns-4
-returns-4 c = puts-same (c .before .before .write-bytes4 .ensures) (name-is (c .before .before .before .before .before .if4 .taken))
+returns-4 c =
+    let at-if4 = c .before .before .before .before .before in
+    puts-same (c .before .before .write-bytes4 .ensures) (name-is (at-if4 .if4 .taken))
 
 slice-aggregate-write-bytes-5 : tie.Need-slice-aggregate-write-bytes-5
 slice-aggregate-write-bytes-5 c = refl
@@ -62,7 +70,9 @@ same-length-5 : tie.Need-same-length-5
 same-length-5 c = c .before .before .write-bytes5 .kept .1 .0
 
 returns-5 : tie.Need-returns-5
-returns-5 c = puts-same (c .before .before .write-bytes5 .ensures) (name-is (c .before .before .before .before .before .if5 .taken))
+returns-5 c =
+    let at-if5 = c .before .before .before .before .before in
+    puts-same (c .before .before .write-bytes5 .ensures) (name-is (at-if5 .if5 .taken))
 
 slice-aggregate-write-bytes-6 : tie.Need-slice-aggregate-write-bytes-6
 slice-aggregate-write-bytes-6 c = refl
@@ -74,7 +84,14 @@ same-length-6 : tie.Need-same-length-6
 same-length-6 c = c .before .before .write-bytes6 .kept .1 .0
 
 returns-6 : tie.Need-returns-6
-returns-6 c = puts-same (c .before .before .write-bytes6 .ensures) (name-of-other _ (c .before .before .before .before .before .before .before .before .before .if1 .left) (c .before .before .before .before .before .before .before .before .if2 .left) (c .before .before .before .before .before .before .before .if3 .left) (c .before .before .before .before .before .before .if4 .left) (c .before .before .before .before .before .if5 .left))
+returns-6 c =
+    let at-if5 = c .before .before .before .before .before in
+    let at-if4 = at-if5 .before in
+    let at-if3 = at-if4 .before in
+    let at-if2 = at-if3 .before in
+    let at-if1 = at-if2 .before in
+    puts-same (c .before .before .write-bytes6 .ensures)
+    (name-of-other _ (at-if1 .if1 .left) (at-if2 .if2 .left) (at-if3 .if3 .left) (at-if4 .if4 .left) (at-if5 .if5 .left))
 
 pub write-kind-spec : {M : Type 1} → statement M
 write-kind-spec =

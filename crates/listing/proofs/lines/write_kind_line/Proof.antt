@@ -24,7 +24,12 @@ same-length : tie.Need-same-length
 same-length c = omega arith
 
 returns : tie.Need-returns
-returns c = puts-then (puts-then (c .before .before .before .before .before .before .before .before .before .before .before .write-bytes .ensures) (puts-same (c .before .before .before .before .before .before .write-kind .ensures) (sym (name-is (c .before .before .before .before .before .before .before .before .get-word .ensures))))) (c .before .before .write-byte .ensures)
+returns c =
+    let at-write-kind = c .before .before .before .before .before .before in
+    let at-get-word = at-write-kind .before .before in
+    let at-write-bytes = at-get-word .before .before .before in
+    puts-then (puts-then (at-write-bytes .write-bytes .ensures)
+    (puts-same (at-write-kind .write-kind .ensures) (sym (name-is (at-get-word .get-word .ensures))))) (c .before .before .write-byte .ensures)
 
 pub write-kind-line-spec : {M : Type 1} → statement M
 write-kind-line-spec =

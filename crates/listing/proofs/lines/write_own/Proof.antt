@@ -27,7 +27,14 @@ same-length c = omega arith
 
 returns : tie.Need-returns
 unfolding ownLines
-returns c = puts-then (puts-then (puts-then (c .before .before .before .before .before .before .before .before .before .before .before .before .before .before .write-number .ensures) (c .before .before .before .before .before .before .before .before .before .before .write-key-line .ensures)) (puts-same (c .before .before .before .before .before .before .write-kind-line .ensures) (ap (line "kind=") (name-of-kind (word (c .before .before .before .before .before .before .before .before .before .before .before .before .before .before .before .before .before .before .before .before .args .words .now) (c .before .before .before .before .before .before .before .before .before .before .before .before .before .before .before .before .before .before .before .before .args .n) 0) _ _)))) (c .before .before .write-text-line .ensures)
+returns c =
+    let at-write-kind-line = c .before .before .before .before .before .before in
+    let at-write-key-line = at-write-kind-line .before .before .before .before in
+    let at-write-number = at-write-key-line .before .before .before .before in
+    let start = at-write-number .before .before .before .before .before .before in
+    puts-then (puts-then (puts-then (at-write-number .write-number .ensures) (at-write-key-line .write-key-line .ensures))
+    (puts-same (at-write-kind-line .write-kind-line .ensures)
+    (ap (line "kind=") (name-of-kind (word (start .args .words .now) (start .args .n) 0) _ _)))) (c .before .before .write-text-line .ensures)
 
 pub write-own-spec : {M : Type 1} → statement M
 write-own-spec =

@@ -17,7 +17,12 @@ same-length : tie.Need-same-length
 same-length c = c .before .before .write-byte .kept .1 .0
 
 returns : tie.Need-returns
-returns c = let s = c .before .before .before .before .before .before .before .before .before .args in puts-same (c .before .before .write-byte .ensures) (text-of-other (word (s .words .now) (s .n) 0) _ (λ e. c .before .before .before .before .if1 .taken (c .before .before .before .before .before .get-word .ensures ∙ e)))
+returns c =
+    let at-if1 = c .before .before .before .before in
+    let at-get-word = at-if1 .before in
+    let start = at-get-word .before .before .before .before in
+    let s = start .args in puts-same (c .before .before .write-byte .ensures)
+    (text-of-other (word (s .words .now) (s .n) 0) _ (λ e. at-if1 .if1 .taken (at-get-word .get-word .ensures ∙ e)))
 
 get-word-requires-2 : tie.Need-get-word-requires-2
 get-word-requires-2 c κs = omega arith
@@ -35,7 +40,16 @@ same-length-2 : tie.Need-same-length-2
 same-length-2 c = c .before .before .write-hex .kept .1 .0
 
 returns-2 : tie.Need-returns-2
-returns-2 c = let s = c .before .before .before .before .before .before .before .before .before .before .before .before .args in puts-same (c .before .before .write-hex .ensures) (string-text (s .words .now) (s .text .now) (s .n) _ _ _ _ (c .before .before .before .before .before .before .before .before .get-word .ensures) (c .before .before .before .before .before .before .before .if1 .left) (c .before .before .before .before .before .before .get-word2 .ensures) (c .before .before .before .before .before .get-word3 .ensures) (c .before .before .before .before .text-part .ensures))
+returns-2 c =
+    let at-text-part = c .before .before .before .before in
+    let at-get-word3 = at-text-part .before in
+    let at-get-word2 = at-get-word3 .before in
+    let at-if1 = at-get-word2 .before in
+    let at-get-word = at-if1 .before in
+    let start = at-get-word .before .before .before .before in
+    let s = start .args in puts-same (c .before .before .write-hex .ensures)
+    (string-text (s .words .now) (s .text .now) (s .n) _ _ _ _ (at-get-word .get-word .ensures) (at-if1 .if1 .left) (at-get-word2 .get-word2 .ensures)
+    (at-get-word3 .get-word3 .ensures) (at-text-part .text-part .ensures))
 
 pub write-text-spec : {M : Type 1} → statement M
 write-text-spec =

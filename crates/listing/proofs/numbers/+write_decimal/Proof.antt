@@ -63,7 +63,9 @@ write-decimal-returns : (t : ℕ) → write-decimal-lts.Need-returns (
   write-decimal-below t,
   write-decimal.Post,
 ) (write-decimal-at t) write-decimal.Post
-write-decimal-returns t c = puts-digit _ (c .before .before .before .before .if1 .taken) (c .before .before .write-byte .ensures)
+write-decimal-returns t c =
+    let at-if1 = c .before .before .before .before in
+    puts-digit _ (at-if1 .if1 .taken) (c .before .before .write-byte .ensures)
 
 write-decimal-write-decimal-requires : (t : ℕ) → write-decimal-lts.Need-write-decimal-requires (
   write-byte-reads.Asked,
@@ -95,7 +97,10 @@ write-decimal-returns-2 : (t : ℕ) → write-decimal-lts.Need-returns-2 (
   write-decimal-below t,
   write-decimal.Post,
 ) (write-decimal-at t) write-decimal.Post
-write-decimal-returns-2 t c = puts-digits _ (c .before .before .before .before .before .before .before .before .if1 .left) (c .before .before .before .before .before .before .write-decimal .ensures) (c .before .before .write-byte2 .ensures)
+write-decimal-returns-2 t c =
+    let at-write-decimal = c .before .before .before .before .before .before in
+    let at-if1 = at-write-decimal .before .before in
+    puts-digits _ (at-if1 .if1 .left) (at-write-decimal .write-decimal .ensures) (c .before .before .write-byte2 .ensures)
 
 pub +write-decimal-spec : {M : Type 1} → statement M
 +write-decimal-spec = close μ-write-decimal λ t. write-decimal-lts.spec (

@@ -39,7 +39,16 @@ loop-less : tie.Need-loop-less Inv-loop μ-loop
 loop-less c = omega arith
 
 loop-again : tie.Need-loop-again Inv-loop μ-loop
-loop-again c = putting-more (c .before .before .before .before .before .before .before .before .before .before .before .before .loop .inv) (hex-more _ _ (c .before .before .before .before .before .before .before .before .before .before .before .loop-test .taken) (c .before .before .before .before .before .before .before .before .before .hex-digit .ensures) (c .before .before .before .before .hex-digit2 .ensures)) (puts-then (c .before .before .before .before .before .before .before .write-byte .ensures) (c .before .before .write-byte2 .ensures)) (c .before .before .write-byte2 .kept .1 .0 ∙ c .before .before .before .before .before .before .before .write-byte .kept .1 .0)
+loop-again c =
+    let at-write-byte2 = c .before .before in
+    let at-hex-digit2 = at-write-byte2 .before .before in
+    let at-write-byte = at-hex-digit2 .before .before .before in
+    let at-hex-digit = at-write-byte .before .before in
+    let at-loop-test = at-hex-digit .before .before in
+    let at-loop = at-loop-test .before in
+    putting-more (at-loop .loop .inv) (hex-more _ _ (at-loop-test .loop-test .taken) (at-hex-digit .hex-digit .ensures)
+    (at-hex-digit2 .hex-digit2 .ensures)) (puts-then (at-write-byte .write-byte .ensures) (at-write-byte2 .write-byte2 .ensures))
+    (at-write-byte2 .write-byte2 .kept .1 .0 ∙ at-write-byte .write-byte .kept .1 .0)
 
 same-length : tie.Need-same-length Inv-loop μ-loop
 same-length c = c .before .loop .inv .long

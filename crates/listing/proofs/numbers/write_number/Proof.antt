@@ -16,7 +16,10 @@ same-length : tie.Need-same-length
 same-length c = omega arith
 
 returns : tie.Need-returns
-returns c = puts-then (puts-then (c .before .before .before .before .before .before .before .before .before .before .write-bytes .ensures) (c .before .before .before .before .before .before .write-decimal .ensures)) (c .before .before .write-byte .ensures)
+returns c =
+    let at-write-decimal = c .before .before .before .before .before .before in
+    let at-write-bytes = at-write-decimal .before .before .before .before in
+    puts-then (puts-then (at-write-bytes .write-bytes .ensures) (at-write-decimal .write-decimal .ensures)) (c .before .before .write-byte .ensures)
 
 pub write-number-spec : {M : Type 1} → statement M
 write-number-spec =

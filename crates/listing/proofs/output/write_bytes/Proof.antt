@@ -28,7 +28,12 @@ loop-less : tie.Need-loop-less Inv-loop μ-loop
 loop-less c = omega arith
 
 loop-again : tie.Need-loop-again Inv-loop μ-loop
-loop-again c = putting-more (c .before .before .before .before .before .before .loop .inv) (drop-1 _ _ (c .before .before .before .before .before .loop-test .taken)) (c .before .before .write-byte .ensures) (c .before .before .write-byte .kept .1 .0)
+loop-again c =
+    let at-write-byte = c .before .before in
+    let at-loop-test = at-write-byte .before .before .before in
+    let at-loop = at-loop-test .before in
+    putting-more (at-loop .loop .inv) (drop-1 _ _ (at-loop-test .loop-test .taken)) (at-write-byte .write-byte .ensures)
+    (at-write-byte .write-byte .kept .1 .0)
 
 same-length : tie.Need-same-length Inv-loop μ-loop
 same-length c = c .before .loop .inv .long

@@ -39,7 +39,8 @@ write-value-below t =
     and 3 write-value-kinds.ps (falls 3 write-value-kinds.ps _<_ μ-write-value t) write-value.Pre
 
 abbrev write-map-Inv-loop : write-map-lts.InvT-loop
-write-map-Inv-loop words text first keyed level out₀ n₀ at₀ left₀ out n at left = Going (firstOfSiblings left words text n keyed level) (firstOfSiblings left₀ words text first keyed level) out₀ out at₀ at left₀ left
+write-map-Inv-loop words text first keyed level out₀ n₀ at₀ left₀ out n at left = Going (firstOfSiblings left words text n keyed level)
+    (firstOfSiblings left₀ words text first keyed level) out₀ out at₀ at left₀ left
 
 abbrev write-map-μ-loop : write-map-lts.MeasureT-loop
 write-map-μ-loop words text first keyed level out₀ n₀ at₀ left₀ out n at left = left
@@ -66,7 +67,9 @@ write-map-returns : (t : ℕ) → write-map-lts.Need-returns (
   get-word-reads.Asked,
   get-word-reads.Learnt,
 ) (write-map-at t) write-map.Post write-map-Inv-loop write-map-μ-loop
-write-map-returns t c = going-done (c .before .before .loop .inv) (none-left (c .before .before .before .before .before .before .args .words .now) (c .before .before .before .before .before .before .args .text .now) _ _ _ _ (c .if1 .taken))
+write-map-returns t c =
+    let start = c .before .before .before .before .before .before in
+    going-done (c .before .before .loop .inv) (none-left (start .args .words .now) (start .args .text .now) _ _ _ _ (c .if1 .taken))
 
 write-map-write-value-requires : (t : ℕ) → write-map-lts.Need-write-value-requires (
   write-value-below t,
@@ -74,7 +77,13 @@ write-map-write-value-requires : (t : ℕ) → write-map-lts.Need-write-value-re
   get-word-reads.Asked,
   get-word-reads.Learnt,
 ) (write-map-at t) write-map.Post write-map-Inv-loop write-map-μ-loop
-write-map-write-value-requires t c κs = (omega (arith, c .before .before .before .before .before .before .before .pre .0, c .before .if1 .left, c .before .before .before .loop .inv .fewer), (omega (arith, c .before .if1 .left), omega (arith, c .before .before .before .before .before .before .before .pre .1, c .before .before .before .loop .inv .fewer)))
+write-map-write-value-requires t c κs =
+    let at-if1 = c .before in
+    let at-loop = at-if1 .before .before in
+    let start = at-loop .before .before .before .before in (
+      omega (arith, start .pre .0, at-if1 .if1 .left, at-loop .loop .inv .fewer),
+      (omega (arith, at-if1 .if1 .left), omega (arith, start .pre .1, at-loop .loop .inv .fewer)),
+    )
 
 write-map-get-word-requires : (t : ℕ) → write-map-lts.Need-get-word-requires (
   write-value-below t,
@@ -90,7 +99,17 @@ write-map-loop-less : (t : ℕ) → write-map-lts.Need-loop-less (
   get-word-reads.Asked,
   get-word-reads.Learnt,
 ) (write-map-at t) write-map.Post write-map-Inv-loop write-map-μ-loop
-write-map-loop-less t c = let s = c .before .before .before .before .before .before .before .before .before .before .before .args in omega (arith, c .before .before .before .write-value .ensures .count, first-some (s .words .now) (s .text .now) (c .before .before .before .before .before .before .before .loop .left) (c .before .before .before .before .before .before .before .loop .n) (s .keyed) (s .level) (omega (arith, c .before .before .before .before .before .if1 .left)))
+write-map-loop-less t c =
+    let at-write-value = c .before .before .before in
+    let at-if1 = at-write-value .before .before in
+    let at-loop = at-if1 .before .before in
+    let start = at-loop .before .before .before .before in
+    let s = start .args in omega (
+      arith,
+      at-write-value .write-value .ensures .count,
+      first-some (s .words .now) (s .text .now) (at-loop .loop .left)
+          (at-loop .loop .n) (s .keyed) (s .level) (omega (arith, at-if1 .if1 .left)),
+    )
 
 write-map-loop-again : (t : ℕ) → write-map-lts.Need-loop-again (
   write-value-below t,
@@ -98,7 +117,14 @@ write-map-loop-again : (t : ℕ) → write-map-lts.Need-loop-again (
   get-word-reads.Asked,
   get-word-reads.Learnt,
 ) (write-map-at t) write-map.Post write-map-Inv-loop write-map-μ-loop
-write-map-loop-again t c = going-turn (c .before .before .before .before .before .before .before .before .before .before .before .args .words .now) (c .before .before .before .before .before .before .before .before .before .before .before .args .text .now) _ _ _ (c .before .before .before .before .before .before .before .loop .inv) (c .before .before .before .before .before .if1 .left) (c .before .before .before .before .before .before .loop-test .taken) (c .before .before .before .write-value .ensures) (c .before .before .before .write-value .kept .1 .1 .1 .1 .1 .0) (c .get-word .ensures)
+write-map-loop-again t c =
+    let at-write-value = c .before .before .before in
+    let at-if1 = at-write-value .before .before in
+    let at-loop-test = at-if1 .before in
+    let at-loop = at-loop-test .before in
+    let start = at-loop .before .before .before .before in
+    going-turn (start .args .words .now) (start .args .text .now) _ _ _ (at-loop .loop .inv) (at-if1 .if1 .left) (at-loop-test .loop-test .taken)
+    (at-write-value .write-value .ensures) (at-write-value .write-value .kept .1 .1 .1 .1 .1 .0) (c .get-word .ensures)
 
 write-map-same-length-2 : (t : ℕ) → write-map-lts.Need-same-length-2 (
   write-value-below t,
@@ -114,7 +140,9 @@ write-map-returns-2 : (t : ℕ) → write-map-lts.Need-returns-2 (
   get-word-reads.Asked,
   get-word-reads.Learnt,
 ) (write-map-at t) write-map.Post write-map-Inv-loop write-map-μ-loop
-write-map-returns-2 t c = going-done (c .before .loop .inv) (no-siblings (c .before .before .before .before .before .args .words .now) (c .before .before .before .before .before .args .text .now) _ _ _ _ (c .loop-test .left))
+write-map-returns-2 t c =
+    let start = c .before .before .before .before .before in
+    going-done (c .before .loop .inv) (no-siblings (start .args .words .now) (start .args .text .now) _ _ _ _ (c .loop-test .left))
 
 write-value-write-own-requires : (t : ℕ) → write-value-lts.Need-write-own-requires (
   write-own-reads.Asked,
@@ -174,7 +202,9 @@ write-value-write-map-requires : (t : ℕ) → write-value-lts.Need-write-map-re
   write-map-below t,
   write-map.Post,
 ) (write-value-at t) write-value.Post
-write-value-write-map-requires t c κs = (omega (arith, c .before .before .before .before .before .before .before .before .before .before .before .before .pre .0, c .before .before .before .before .before .before .before .before .before .before .before .before .pre .1 .0), omega (arith, c .before .before .before .before .before .before .before .before .before .before .before .before .pre .1 .0, c .before .before .before .before .before .before .before .before .before .before .before .before .pre .1 .1))
+write-value-write-map-requires t c κs =
+    let start = c .before .before .before .before .before .before .before .before .before .before .before .before in
+    (omega (arith, start .pre .0, start .pre .1 .0), omega (arith, start .pre .1 .0, start .pre .1 .1))
 
 write-value-same-length : (t : ℕ) → write-value-lts.Need-same-length (
   write-own-reads.Asked,
@@ -194,7 +224,15 @@ write-value-returns : (t : ℕ) → write-value-lts.Need-returns (
   write-map-below t,
   write-map.Post,
 ) (write-value-at t) write-value.Post
-write-value-returns t c = let s = c .before .before .before .before .before .before .before .before .before .before .before .before .before .before .before .args in wrote-own (map-first (s .words .now) (s .text .now) _ (s .n) _ _ (c .before .before .before .before .before .before .before .before .before .before .before .before .before .before .before .pre .1 .0) (c .before .before .before .before .before .before .get-word .ensures) (c .before .before .before .before .if1 .taken) (c .before .before .before .before .before .get-word2 .ensures)) (c .before .before .before .before .before .before .before .before .before .before .before .before .before .before .before .pre .1 .0) (c .before .before .before .before .before .before .before .before .before .before .write-own .ensures) (c .before .before .write-map .ensures)
+write-value-returns t c =
+    let at-if1 = c .before .before .before .before in
+    let at-get-word2 = at-if1 .before in
+    let at-get-word = at-get-word2 .before in
+    let at-write-own = at-get-word .before .before .before .before in
+    let start = at-write-own .before .before .before .before .before in
+    let s = start .args in wrote-own (map-first (s .words .now) (s .text .now) _ (s .n) _ _ (start .pre .1 .0) (at-get-word .get-word .ensures)
+    (at-if1 .if1 .taken) (at-get-word2 .get-word2 .ensures)) (start .pre .1 .0) (at-write-own .write-own .ensures)
+    (c .before .before .write-map .ensures)
 
 write-value-add-write-map-2 : (t : ℕ) → write-value-lts.Need-add-write-map-2 (
   write-own-reads.Asked,
@@ -214,7 +252,9 @@ write-value-write-map-requires-2 : (t : ℕ) → write-value-lts.Need-write-map-
   write-map-below t,
   write-map.Post,
 ) (write-value-at t) write-value.Post
-write-value-write-map-requires-2 t c κs = (omega (arith, c .before .before .before .before .before .before .before .before .before .before .before .before .before .pre .0, c .before .before .before .before .before .before .before .before .before .before .before .before .before .pre .1 .0), omega (arith, c .before .before .before .before .before .before .before .before .before .before .before .before .before .pre .1 .0, c .before .before .before .before .before .before .before .before .before .before .before .before .before .pre .1 .1))
+write-value-write-map-requires-2 t c κs =
+    let start = c .before .before .before .before .before .before .before .before .before .before .before .before .before in
+    (omega (arith, start .pre .0, start .pre .1 .0), omega (arith, start .pre .1 .0, start .pre .1 .1))
 
 write-value-same-length-2 : (t : ℕ) → write-value-lts.Need-same-length-2 (
   write-own-reads.Asked,
@@ -234,7 +274,15 @@ write-value-returns-2 : (t : ℕ) → write-value-lts.Need-returns-2 (
   write-map-below t,
   write-map.Post,
 ) (write-value-at t) write-value.Post
-write-value-returns-2 t c = let s = c .before .before .before .before .before .before .before .before .before .before .before .before .before .before .before .before .args in wrote-own (sequence-first (s .words .now) (s .text .now) _ (s .n) _ _ (c .before .before .before .before .before .before .before .before .before .before .before .before .before .before .before .before .pre .1 .0) (c .before .before .before .before .before .before .before .get-word .ensures) (c .before .before .before .before .if2 .taken) (c .before .before .before .before .before .before .get-word2 .ensures)) (c .before .before .before .before .before .before .before .before .before .before .before .before .before .before .before .before .pre .1 .0) (c .before .before .before .before .before .before .before .before .before .before .before .write-own .ensures) (c .before .before .write-map2 .ensures)
+write-value-returns-2 t c =
+    let at-if2 = c .before .before .before .before in
+    let at-get-word2 = at-if2 .before .before in
+    let at-get-word = at-get-word2 .before in
+    let at-write-own = at-get-word .before .before .before .before in
+    let start = at-write-own .before .before .before .before .before in
+    let s = start .args in wrote-own (sequence-first (s .words .now) (s .text .now) _ (s .n) _ _ (start .pre .1 .0) (at-get-word .get-word .ensures)
+    (at-if2 .if2 .taken) (at-get-word2 .get-word2 .ensures)) (start .pre .1 .0) (at-write-own .write-own .ensures)
+    (c .before .before .write-map2 .ensures)
 
 write-value-same-length-3 : (t : ℕ) → write-value-lts.Need-same-length-3 (
   write-own-reads.Asked,
@@ -254,7 +302,12 @@ write-value-returns-3 : (t : ℕ) → write-value-lts.Need-returns-3 (
   write-map-below t,
   write-map.Post,
 ) (write-value-at t) write-value.Post
-write-value-returns-3 t c = let s = c .before .before .before .before .before .before .before .before .before .before .before .before .args in wrote-own (single-first (s .words .now) (s .text .now) _ (s .n) _ _ (c .before .before .before .before .before .before .before .before .before .before .before .before .pre .1 .0) (c .before .before .before .get-word .ensures) (c .before .if1 .left) (c .if2 .left)) (c .before .before .before .before .before .before .before .before .before .before .before .before .pre .1 .0) (c .before .before .before .before .before .before .before .write-own .ensures) (wrote-none _ _)
+write-value-returns-3 t c =
+    let at-get-word = c .before .before .before in
+    let at-write-own = at-get-word .before .before .before .before in
+    let start = at-write-own .before .before .before .before .before in
+    let s = start .args in wrote-own (single-first (s .words .now) (s .text .now) _ (s .n) _ _ (start .pre .1 .0) (at-get-word .get-word .ensures)
+    (c .before .if1 .left) (c .if2 .left)) (start .pre .1 .0) (at-write-own .write-own .ensures) (wrote-none _ _)
 
 pub +write-map+write-value-spec : {M : Type 1} → statement M
 +write-map+write-value-spec = close μ-write-map μ-write-value (λ t. write-map-lts.spec (

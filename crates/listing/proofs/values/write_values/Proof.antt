@@ -11,7 +11,10 @@ returns : tie.Need-returns
 returns c = puts-same (puts-nothing _) (rw (ne-eqb _ _ (c .if1 .taken)))
 
 returns-2 : tie.Need-returns-2
-returns-2 c = let s = c .before .before .before .before .before .args in puts-same (puts-nothing _) (rw (eq-eqb _ _ (c .before .if1 .left)) (no-records (s .words .now) (s .text .now) (c .if2 .taken)))
+returns-2 c =
+    let start = c .before .before .before .before .before in
+    let s = start .args in puts-same (puts-nothing _)
+    (rw (eq-eqb _ _ (c .before .if1 .left)) (no-records (s .words .now) (s .text .now) (c .if2 .taken)))
 
 write-value-requires : tie.Need-write-value-requires
 write-value-requires c κs = omega arith
@@ -20,7 +23,11 @@ same-length : tie.Need-same-length
 same-length c = omega arith
 
 returns-3 : tie.Need-returns-3
-returns-3 c = puts-same (c .before .before .write-value .ensures .lines) (rw (eq-eqb _ _ (c .before .before .before .before .before .if1 .left)) (ap flatten (sym (root-first (c .before .before .before .before .before .before .before .before .before .args .words .now) (c .before .before .before .before .before .before .before .before .before .args .text .now)))))
+returns-3 c =
+    let at-if1 = c .before .before .before .before .before in
+    let start = at-if1 .before .before .before .before in
+    puts-same (c .before .before .write-value .ensures .lines)
+    (rw (eq-eqb _ _ (at-if1 .if1 .left)) (ap flatten (sym (root-first (start .args .words .now) (start .args .text .now)))))
 
 pub write-values-spec : {M : Type 1} → statement M
 write-values-spec =

@@ -1,15 +1,16 @@
-use borrow.Author.Tests.{lt-ltb, le-ltb}
+use mathlib.Core.Path.{sym}
+use Rattle.key.proofs.KeyOrders.{compare-less, compare-greater, compare-equal}
 use Rattle.records.proofs.keys.compare_ints.Statement.{statement}
 use Rattle.records.proofs.keys.compare_ints.Tie as tie
 
 returns : tie.Need-returns
-returns c = simp (lt-ltb _ _ (c .if1 .taken))
+returns c = sym (compare-less _ _ (c .if1 .taken))
 
 returns-2 : tie.Need-returns-2
-returns-2 c = simp (le-ltb _ _ (c .before .if1 .left), lt-ltb _ _ (c .if2 .taken))
+returns-2 c = sym (compare-greater _ _ (c .if2 .taken))
 
 returns-3 : tie.Need-returns-3
-returns-3 c = simp (le-ltb _ _ (c .before .if1 .left), le-ltb _ _ (c .if2 .left))
+returns-3 c = sym (compare-equal _ _ (c .if2 .left) (c .before .if1 .left))
 
 pub compare-ints-spec : {M : Type 1} → statement M
 compare-ints-spec = tie.close (tie.spec returns returns-2 returns-3)

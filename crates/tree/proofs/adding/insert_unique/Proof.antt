@@ -5,7 +5,7 @@ use Rattle.tree.specs.Leaves.{leafOf}
 use Rattle.tree.specs.Commands.{enters, appends, inserts, further}
 use Rattle.tree.proofs.Composed.{insert-composed}
 use Rattle.tree.proofs.Chained.{then-standing, stops, goes-on}
-use Rattle.tree.proofs.Bounds.{made-modest, insert-modest}
+use Rattle.tree.proofs.Bounds.{made-modest}
 use borrow.Author.Needs.{needs}
 use Rattle.tree.proofs.adding.insert_unique.Statement.{statement}
 use Rattle.tree.proofs.adding.insert_unique.Tie as tie
@@ -44,10 +44,8 @@ returns c =
     let start = at-enter .before .before .before .before .before .before .before in
     let key = soughtKey (start .args .key) (start .args .raw .now) in
     let x = leafOf (start .args .kind) (start .args .value .now) in
-    let does =
     goes-on (enters key) (further key) (at-enter .enter .ensures .0) (appends x) (inserts key x) (λ lent. insert-composed lent key x)
-    (at-there .there .given .1) (at-append-value .append-value .ensures .0) in
-    (does, insert-modest (start .pre .0) (start .args .kind) (start .args .value .now) (start .args .key) (start .args .raw .now) does)
+    (at-there .there .given .1) (at-append-value .append-value .ensures)
 
 same-length-3 : tie.Need-same-length-3
 same-length-3 c = search needs
@@ -61,11 +59,9 @@ returns-2 c =
     let at-enter = at-number .before .before .before .before .before .before in
     let start = at-enter .before .before .before .before .before .before .before in
     let key = soughtKey (start .args .key) (start .args .raw .now) in
-    let x = leafOf (start .args .kind) (start .args .value .now) in (
-      stops (enters key) (further key) (at-enter .enter .ensures .0) (λ lent path. appends x lent (further key path)) (inserts key x)
-          (λ lent. insert-composed lent key x) (further key) (at-number .number .given .1),
-      tt,
-    )
+    let x = leafOf (start .args .kind) (start .args .value .now) in
+    stops (enters key) (further key) (at-enter .enter .ensures .0) (λ lent path. appends x lent (further key path)) (inserts key x)
+    (λ lent. insert-composed lent key x) (further key) (at-number .number .given .1)
 
 pub insert-unique-spec : {M : Type 1} → statement M
 insert-unique-spec =

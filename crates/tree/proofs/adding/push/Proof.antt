@@ -6,7 +6,6 @@ use Rattle.tree.specs.Commands.{needsSequence, appends, pushes, stays, C
 use Rattle.tree.proofs.Composed.{push-composed}
 use Rattle.tree.proofs.Chained.{then-standing, stops, goes-on}
 use Rattle.tree.proofs.Standing.{stand-low}
-use Rattle.tree.proofs.Bounds.{push-modest}
 use Rattle.tree.proofs.Needs.{sequenceNeed, needed-here}
 use borrow.Author.Needs.{needs}
 use Rattle.tree.proofs.adding.push.Statement.{statement}
@@ -48,10 +47,8 @@ returns c =
     let at-expect-sequence = at-there .before .before .before .before in
     let start = at-expect-sequence .before .before .before .before .before in
     let x = leafOf (start .args .kind) (start .args .value .now) in
-    let does =
     goes-on needsSequence stays (at-expect-sequence .expect-sequence .ensures .1 (start .args .text .now)) (appends x) (pushes x) (λ lent. push-composed lent x)
-    (at-there .there .given .1) (at-append-value .append-value .ensures .0) in
-    (does, push-modest (start .pre .0) (start .args .kind) (start .args .value .now) does)
+    (at-there .there .given .1) (at-append-value .append-value .ensures)
 
 same-length-3 : tie.Need-same-length-3
 same-length-3 c = search needs
@@ -61,11 +58,9 @@ returns-2 c =
     let at-number = c .before in
     let at-expect-sequence = at-number .before .before .before .before in
     let start = at-expect-sequence .before .before .before .before .before in
-    let x = leafOf (start .args .kind) (start .args .value .now) in (
-      stops needsSequence stays (at-expect-sequence .expect-sequence .ensures .1 (start .args .text .now)) (appends x) (pushes x) (λ lent. push-composed lent x)
-          stays (at-number .number .given .1),
-      tt,
-    )
+    let x = leafOf (start .args .kind) (start .args .value .now) in
+    stops needsSequence stays (at-expect-sequence .expect-sequence .ensures .1 (start .args .text .now)) (appends x) (pushes x) (λ lent. push-composed lent x)
+    stays (at-number .number .given .1)
 
 pub push-spec : {M : Type 1} → statement M
 push-spec =

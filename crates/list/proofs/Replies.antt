@@ -1,0 +1,97 @@
+-- What the program writes fits its output, and so is written whole.
+use mathlib.Core.Path.{_≡_, sym, ap, subst, _∙_}
+use mathlib.Core.Bool.{Bool}
+use mathlib.Core.List.{List, _++_}
+use Prim.Native.Nat.{ℕ, _-_, _/_, _^_, _≤_, _<_}
+use native.Mathlib.Omega.{arith}
+use borrow.Author.Tests.{le-leb}
+use lib.ListN.{length, take, drop, getD, length-append}
+use lib.Seq.{take-all}
+use Rattle.laws.proofs.Cases.{below}
+use Rattle.laws.proofs.Lists.{mid-tail}
+use Rattle.config.specs.declared.Config.{Config}
+use Rattle.config.specs.Limits.{recordWidth}
+use Rattle.reading.specs.Reading.{reading}
+use Rattle.reading.proofs.Outcomes.{answers, of-accepted}
+use Rattle.reading.proofs.Placed.{placed}
+use Rattle.parse.specs.declared.Parsed.{Parsed}
+use Rattle.parse.specs.Outcomes.{outcomeOf}
+use Rattle.listing.specs.declared.Listed.{Listed}
+use Rattle.listing.specs.declared.head.Head.{Head}
+use Rattle.listing.specs.declared.head.Head.the-variants.{Bad, Good}
+use Rattle.listing.specs.Listing.{listing}
+use Rattle.listing.specs.Bounded.{boundedListing}
+use Rattle.listing.specs.Output.{answer, filled}
+use Rattle.listing.specs.Heads.{headOf, badHead}
+use Rattle.listing.specs.Room.{Narrow}
+use Rattle.listing.proofs.Complete.{whichever, complete}
+use Rattle.listing.proofs.Room.{room}
+use Rattle.listing.proofs.Heads.{Inside, head-inside}
+use Rattle.list.specs.Reply.{replyTo, reply}
+use Rattle.list.specs.Lending.{Lent, counted, Written}
+
+-- Bytes that fit are written whole, and counted.
+module _ (bytes out out′ : List ℕ) {listed : Listed} {r : ℕ} (answered : listed ≡ answer bytes out) (output : out′ ≡ filled bytes out) (count : r ≡ counted listed) where
+  pub written : length bytes ≤ length out → Written bytes out out′ r
+  written h =
+      record {
+        count = count ∙ ap counted answered ∙ rw (le-leb (length bytes) (length out) h);
+        output = output ∙ ap (λ t. t ++ drop (length bytes) out) (take-all (length out) bytes h);
+      }
+
+-- What was written stands in the output.
+pub count-inside : (bytes out out′ : List ℕ) {n : ℕ} → Written bytes out out′ n → n ≤ length out′
+count-inside bytes out out′ w = rw (w .output, length-append) (omega (arith, w .count))
+
+-- A reading's listing fits, since its words are u32s.
+module _ (config : Config) (input words text out : List ℕ) (lent : Lent words text out) where
+  used : ((reading config input words text) .records ≤ 2000) × ((reading config input words text) .bytes ≤ 65535)
+  used =
+      let o = reading config input words text in
+      below 0 (o .number)
+      (λ h. let n = answers config input words text .refusedCounts (omega arith) in (omega (arith, n .0), omega (arith, n .1)))
+      (λ h.
+      let within =
+      whichever (of-accepted (λ p v n t. (p .records ≤ length words / recordWidth) × (p .bytes ≤ length text)) config input words text
+      (λ v n t s. (s .within .records, s .within .bytes)) (omega arith)) in
+      (omega (arith, within .0, lent .records), omega (arith, within .1, lent .bytes)))
+
+  narrow : ((i : ℕ) → getD ((reading config input words text) .words) i 0 < 2 ^ 32) → Narrow (reading config input words text)
+  narrow h =
+      record {
+        number = omega (arith, answers config input words text .numbered);
+        place = omega (arith, placed config input words text .bounded);
+        records = omega (arith, used .0);
+        bytes = omega (arith, used .1);
+        words = h;
+      }
+
+  fits : ((i : ℕ) → getD ((reading config input words text) .words) i 0 < 2 ^ 32) → length (listing (reading config input words text)) ≤ length out
+  fits h = omega (arith, room config input words text (narrow h), used .0, used .1, lent .output)
+
+  pub listing-written : (words′ text′ : List ℕ) {q p : Parsed} → outcomeOf q words′ text′ ≡ reading config input words text → q ≡ p
+      → ((i : ℕ) → getD ((outcomeOf p words′ text′) .words) i 0 < 2 ^ 32)
+      → (out′ : List ℕ) {listed : Listed} {r : ℕ} → listed ≡ answer (boundedListing (outcomeOf p words′ text′)) out
+      → out′ ≡ filled (boundedListing (outcomeOf p words′ text′)) out → r ≡ counted listed
+      → Written (listing (reading config input words text)) out out′ r
+  listing-written words′ text′ {p = p} read told u32s out′ {r = r} answered output count =
+      let o = outcomeOf p words′ text′ in
+      let e : o ≡ reading config input words text = subst (λ a. outcomeOf a words′ text′ ≡ reading config input words text) told read in
+      let whole : boundedListing o ≡ listing (reading config input words text) = ap boundedListing e ∙ complete config input words text .whole in
+      let long = fits (subst (λ a. (i : ℕ) → getD (a .words) i 0 < 2 ^ 32) e u32s) in
+      subst (λ bytes. Written bytes out out′ r) whole (written (boundedListing o) out out′ answered output count (subst (λ bytes. length bytes ≤ length out) (sym whole) long))
+
+-- The query string starts inside the input.
+pub start-inside : (input : List ℕ) {head : Head} {depth start : ℕ} {form : Bool} → head ≡ headOf input → head ≡ Good depth form start → start ≤ length input
+start-inside input told e = subst (Inside (length input)) (sym told ∙ e) (head-inside input)
+
+-- The reply, by the head.
+module _ (input words text out out′ : List ℕ) {head : Head} {r : ℕ} (told : head ≡ headOf input) where
+  pub bad-reply : head ≡ Bad → Written badHead out out′ r → Written (reply input words text) out out′ r
+  bad-reply e w = subst (λ h. Written (replyTo h input words text) out out′ r) (sym e ∙ told) w
+
+  pub good-reply : (config : Config) (start : ℕ) → head ≡ Good (config .depth) (config .form) start
+      → Written (listing (reading config (take (length input - start) (drop start input)) words text)) out out′ r → Written (reply input words text) out out′ r
+  good-reply config start e w =
+      subst (λ h. Written (replyTo h input words text) out out′ r) (sym e ∙ told)
+      (subst (λ query. Written (listing (reading config query words text)) out out′ r) (mid-tail start input) w)

@@ -1,0 +1,19 @@
+-- Document 01, 'The listing program': what it prints for its standard input.
+use Prim.Native.Nat.{ℕ}
+use mathlib.Core.List.{List}
+use lib.ListN.{drop}
+use Rattle.reading.specs.Reading.{reading}
+use Rattle.listing.specs.declared.head.Head.{Head}
+use Rattle.listing.specs.declared.head.Head.the-variants.{Bad, Good}
+use Rattle.listing.specs.Heads.{headOf, badHead}
+use Rattle.listing.specs.Listing.{listing}
+
+-- "A bad head prints only `answer=head`." After a good one the rest is the query string (document 01's "ticket"), "to end of file".
+abbrev pub replyTo : Head → List ℕ → List ℕ → List ℕ → List ℕ
+replyTo Bad input words text = badHead
+replyTo (Good depth form start) input words text =
+    listing (reading (record { depth = depth; form = form }) (drop start input) words text)
+
+-- The words and the text are those that the program lends, as they were before.
+abbrev pub reply : List ℕ → List ℕ → List ℕ → List ℕ
+reply input words text = replyTo (headOf input) input words text

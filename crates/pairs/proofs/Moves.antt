@@ -1,0 +1,209 @@
+-- A reading moves on: by a taking, by a scan, by a command.
+use Prim.Native.Nat.{ℕ, _+_, _-_, _≤_}
+use mathlib.Core.Path.{_≡_, refl, sym, ap, _∙_, subst}
+use mathlib.Core.Bool.{Bool, true, not}
+use mathlib.Core.Option.{Option, none, some}
+use mathlib.Core.List.{List, [], _∷_, _++_}
+use native.Mathlib.Omega.{arith}
+use lib.Dec.{eqb}
+use lib.ListN.{length, length-append}
+use Rattle.laws.proofs.Cases.{true-false}
+use Rattle.config.specs.declared.Config.{Config}
+use Rattle.key.specs.Keys.{Key}
+use Rattle.reading.specs.Values.{Value}
+use Rattle.reading.specs.Charging.{Lent, made}
+use Rattle.reading.specs.Refusals.{code}
+use Rattle.reading.specs.Taking.{Symbol, ampersand, equals, opening, closing, other}
+use Rattle.reading.specs.Scanning.{Target, Mode, rootKey, value, keyBelowDepth, keyAtDepth, Step, _then_, step, finish}
+use Rattle.reading.specs.Running.{Answer, perform}
+use Rattle.reading.proofs.Results.{Gives, gives, Whatever, gives-map}
+use Rattle.reading.proofs.Space.{Covered, step-covered, finish-covered}
+use Rattle.cursor.specs.declared.taking.Symbol as code
+use Rattle.cursor.specs.declared.taking.Cursor.{Cursor}
+use Rattle.cursor.specs.declared.taking.Taken.{Taken}
+use Rattle.cursor.specs.declared.scanning.Until.the-variants.{Value as ValueScan, Closing, KeyAtDepth, RootKey}
+use Rattle.cursor.specs.Segments.{segment}
+use Rattle.cursor.specs.Takings.{yielded, Takes, TakesEnd, Took, Next}
+use Rattle.cursor.specs.Scans.{stops, Passed}
+use Rattle.cursor.specs.From.{from, after}
+use Rattle.cursor.proofs.Segments.{length-segment}
+use Rattle.cursor.proofs.From.{from-take, from-end}
+use Rattle.cursor.proofs.Scans.{scan-value, scan-below-depth, scan-at-depth, scan-root}
+use Rattle.tree.specs.declared.Here.{Here}
+use Rattle.pairs.specs.declared.turning.Turn.{Turn}
+use Rattle.pairs.specs.declared.turning.Turn.the-variants.{Going, Refused}
+use Rattle.pairs.specs.declared.turning.Level.{Level}
+use Rattle.pairs.specs.declared.turning.Level.the-variants.{Deeper, Turned}
+use Rattle.pairs.specs.Progress.{still, stepBy, Reads, Ready}
+use Rattle.pairs.specs.Turns.{Onward, Further, Turns, Levels}
+
+-- Whatever the answer is, a reading that has come to the first point has come to the second.
+pub record Move (config : Config) (input W X : List ℕ) (h : Here) (i : ℕ) (due : List Key → Step) (W′ X′ : List ℕ) (h′ : Here) (j : ℕ) (due′ : List Key → Step) : Type 0 where
+  pub moves : (answer : Answer) → Reads config input W X h i due answer → Reads config input W′ X′ h′ j due′ answer
+
+module _ {config : Config} {input W X : List ℕ} {h : Here} {i : ℕ} {due : List Key → Step} {W′ X′ : List ℕ} {h′ : Here} {j : ℕ}
+    {due′ : List Key → Step} (m : Move config input W X h i due W′ X′ h′ j due′) where
+  pub moved : Ready config input W X h i due → Ready config input W′ X′ h′ j due′
+  moved r = record { answer = r .answer; reads = m .moves (r .answer) (r .reads) }
+
+  pub move-on : {W″ X″ : List ℕ} {h″ : Here} {k : ℕ} {due″ : List Key → Step} → Move config input W′ X′ h′ j due′ W″ X″ h″ k due″
+      → Move config input W X h i due W″ X″ h″ k due″
+  move-on n = record { moves = λ a y. n .moves a (m .moves a y) }
+
+  pub turns-on : {W″ X″ : List ℕ} {low low′ : ℕ} {turn : Turn} → low ≤ low′ → Turns config input W′ X′ W″ X″ h′ j due′ low′ turn
+      → Turns config input W X W″ X″ h i due low turn
+  turns-on {W″} {X″} {low} {low′} {turn} l t = record { turns = λ a y. go a turn (t .turns a (m .moves a y)) }
+    where
+      go : (a : Answer) (z : Turn) → Onward config input W″ X″ low′ a z → Onward config input W″ X″ low a z
+      go a (Going p k) o = (o .0, omega (arith, o .1))
+      go a (Refused n p) o = o
+
+  pub levels-on : {W″ X″ : List ℕ} {low low′ : ℕ} {r : Level} → low ≤ low′ → Levels config input W′ X′ W″ X″ h′ j due′ low′ r → Levels config input W X W″ X″ h i due low r
+  levels-on {W″} {X″} {low} {low′} {r} l t = record { levels = λ a y. go a r (t .levels a (m .moves a y)) }
+    where
+      go : (a : Answer) (z : Level) → Further config input W″ X″ low′ a z → Further config input W″ X″ low a z
+      go a (Deeper k) o = (o .0, omega (arith, o .1), o .2)
+      go a (Turned (Going p k)) o = (o .0, omega (arith, o .1))
+      go a (Turned (Refused n p)) o = o
+
+-- A pair that is done is a level that is done.
+pub as-level : {config : Config} {input W X W′ X′ : List ℕ} {h : Here} {i : ℕ} {due : List Key → Step} {low : ℕ} {turn : Turn}
+    → Turns config input W X W′ X′ h i due low turn → Levels config input W X W′ X′ h i due low (Turned turn)
+as-level t = record { levels = t .turns }
+
+-- The same tree at a place not before, where another step is due: with the same answer, and covered by the bytes taken.
+module _ {config : Config} {input W X : List ℕ} {h : Here} {i j : ℕ} {due due′ : List Key → Step} {a : Answer} where
+  reads-as : i ≤ j → j ≤ length input + 1 → (y : Reads config input W X h i due a)
+      → after config (y .lent) input j (due′ (y .path) .command) (due′ (y .path) .next) (y .tree) (h .records) (y .laid)
+      ≡ after config (y .lent) input i (due (y .path) .command) (due (y .path) .next) (y .tree) (h .records) (y .laid)
+      → Gives (Covered j (due′ (y .path) .next)) Whatever (perform (y .lent) (due′ (y .path) .command) (y .tree) (h .records) (y .laid))
+      → Reads config input W X h j due′ a
+  reads-as l w y e c =
+      record {
+        lent = y .lent;
+        path = y .path;
+        tree = y .tree;
+        laid = y .laid;
+        stands = y .stands;
+        onward = e ∙ y .onward;
+        covered = c;
+        records = omega (arith, y .records);
+        bytes = omega (arith, y .bytes);
+        small = y .small;
+        within = w;
+      }
+
+-- What is due, told by an equal step.
+pub due-as : {config : Config} {input W X : List ℕ} {h : Here} {i : ℕ} {due : List Key → Step} (due′ : List Key → Step)
+    → ((path : List Key) → due path ≡ due′ path) → Move config input W X h i due W X h i due′
+due-as {config} {input} {W} {X} {h} {i} {due} due′ e =
+    record {
+      moves = λ a y. reads-as (omega arith) (y .within) y
+          (ap (λ (s : Step). after config (y .lent) input i (s .command) (s .next) (y .tree) (h .records) (y .laid)) (sym (e (y .path))))
+          (subst (λ (s : Step). Gives (Covered i (s .next)) Whatever (perform (y .lent) (s .command) (y .tree) (h .records) (y .laid)))
+          (e (y .path)) (y .covered));
+    }
+
+-- The bytes taken cover what is used where nothing is due.
+made-covered : {P : Value → ℕ → List ℕ → Type 0} {v : Value} {n : ℕ} {t : List ℕ} → Gives P Whatever (made v n t) → P v n t
+made-covered (gives p) = p
+
+-- From one mode to another, at a place not before: the same reading, and the bytes taken cover what the second needs.
+mode-move : {config : Config} {input W X : List ℕ} {h : Here} {i j : ℕ} (m m′ : List Key → Mode) → i ≤ j → j ≤ length input + 1
+    → ((lent : Lent) (path : List Key) (v : Value) (n : ℕ) (t : List ℕ) → from config lent input i (m path) v n t ≡ from config lent input j (m′ path) v n t)
+    → ((path : List Key) (v : Value) (n : ℕ) (t : List ℕ) → Covered i (m path) v n t → Covered j (m′ path) v n t)
+    → Move config input W X h i (still m) W X h j (still m′)
+mode-move {h = h} m m′ l w e f =
+    record {
+      moves = λ a y. reads-as l w y (sym (e (y .lent) (y .path) (y .tree) (h .records) (y .laid)))
+          (gives (f (y .path) (y .tree) (h .records) (y .laid) (made-covered (y .covered))));
+    }
+
+-- A taking.
+take-covered : {config : Config} {s : List ℕ} {i j : ℕ} {symbol : Symbol} → Takes config s i symbol j
+    → (lent : Lent) (m : Mode) (v : Value) (n : ℕ) (t : List ℕ) → Covered i m v n t
+    → Gives (Covered j (step config m symbol (segment s i j) .next)) Whatever (perform lent (step config m symbol (segment s i j) .command) v n t)
+take-covered {config} {s} {i} {j} {symbol} k lent m v n t c =
+    let e : i + length (k .first ∷ k .others) ≡ j = ap (λ (l : List ℕ). i + length l) (k .raw) ∙ place in
+    subst (λ (l : List ℕ). Gives (Covered j (step config m symbol l .next)) Whatever (perform lent (step config m symbol l .command) v n t)) (k .raw)
+    (subst (λ (p : ℕ). Gives (Covered p (step config m symbol (k .first ∷ k .others) .next)) Whatever
+    (perform lent (step config m symbol (k .first ∷ k .others) .command) v n t)) e
+    (gives-map (λ w q u g. g) (λ x g. tt) (step-covered config lent m symbol (k .first) (k .others) i v n t c)))
+  where
+    place : i + length (segment s i j) ≡ j
+    place = rw (length-segment s i j (omega (arith, k .on)) (k .within)) (omega (arith, k .on))
+
+take-move : {config : Config} {s W X : List ℕ} {h : Here} {i j : ℕ} {symbol : Symbol} → Takes config s i symbol j → (m : List Key → Mode)
+    → Move config s W X h i (still m) W X h j (λ path. step config (m path) symbol (segment s i j))
+take-move {h = h} k m =
+    record {
+      moves = λ a y. reads-as (omega (arith, k .on)) (omega (arith, k .within)) y
+          (sym (from-take k (y .lent) (m (y .path)) (y .tree) (h .records) (y .laid)))
+          (take-covered k (y .lent) (m (y .path)) (y .tree) (h .records) (y .laid) (made-covered (y .covered)));
+    }
+
+-- The end taken.
+end-move : {config : Config} {s W X : List ℕ} {h : Here} {i j : ℕ} → TakesEnd s i j → (m : List Key → Mode)
+    → Move config s W X h i (still m) W X h j (λ path. finish config (m path) then rootKey [])
+end-move {config} {h = h} {i} {j} k m =
+    record {
+      moves = λ a y. reads-as (omega (arith, k .on)) (omega (arith, k .on, k .at-end)) y
+          (sym (from-end k config (y .lent) (m (y .path)) (y .tree) (h .records) (y .laid)))
+          (gives-map (λ w q u g. g) (λ x g. tt)
+          (finish-covered config (y .lent) (m (y .path)) i j (y .tree) (h .records) (y .laid) (omega (arith, k .on)) (made-covered (y .covered))));
+    }
+
+pub took-move : {config : Config} {s W X : List ℕ} {h : Here} {i j : ℕ} (o : Option Symbol) → Took config s i o j → (m : List Key → Mode)
+    → Move config s W X h i (still m) W X h j (λ path. stepBy config (m path) o (segment s i j))
+took-move (some symbol) k m = take-move k m
+took-move none k m = end-move k m
+
+pub next-move : {config : Config} {s W X : List ℕ} {h : Here} {cursor : Cursor} {taken : Taken} {i : ℕ} {symbol : code.Symbol}
+    → Next config s cursor taken → cursor .place ≡ i → taken .symbol ≡ symbol → (m : List Key → Mode)
+    → Move config s W X h i (still m) W X h (taken .cursor .place) (λ path. stepBy config (m path) (yielded symbol) (segment s i (taken .cursor .place)))
+next-move {config} {s} {taken = taken} {i = i} {symbol = symbol} n e q m =
+    took-move (yielded symbol)
+    (subst (λ (y : code.Symbol). Took config s i (yielded y) (taken .cursor .place)) q
+    (subst (λ (p : ℕ). Took config s p (yielded (taken .symbol)) (taken .cursor .place)) e (n .took))) m
+
+-- Scans.
+module _ {config : Config} {s : List ℕ} {i j : ℕ} (l : i ≤ j) (w : j ≤ length s) where
+  pub value-scan : {W X : List ℕ} {h : Here} → Passed ValueScan config s i j → (target : List Key → Target)
+      → Move config s W X h i (still (λ path. value (target path) [])) W X h j (still (λ path. value (target path) (segment s i j)))
+  value-scan p target =
+      mode-move (λ path. value (target path) []) (λ path. value (target path) (segment s i j)) l (omega arith) (λ lent path. scan-value p (target path) lent)
+      (λ path v n t c. record { records = omega (arith, c .records); bytes = omega (arith, c .bytes, length-segment s i j l w) })
+
+  pub below-scan : {W X : List ℕ} {h : Here} → Passed Closing config s i j → (level : ℕ) (x : List ℕ)
+      → Move config s W X h i (still (λ path. keyBelowDepth path level x)) W X h j (still (λ path. keyBelowDepth path level (x ++ segment s i j)))
+  below-scan p level x =
+      mode-move (λ path. keyBelowDepth path level x) (λ path. keyBelowDepth path level (x ++ segment s i j)) l (omega arith)
+      (λ lent path. scan-below-depth p path level x lent)
+      (λ path v n t c. record { records = omega (arith, c .records); bytes = omega (arith, c .bytes, length-segment s i j l w, length-append x (segment s i j)) })
+
+  pub at-scan : {W X : List ℕ} {h : Here} → Passed KeyAtDepth config s i j → (x : List ℕ)
+      → Move config s W X h i (still (λ path. keyAtDepth path x)) W X h j (still (λ path. keyAtDepth path (x ++ segment s i j)))
+  at-scan p x =
+      mode-move (λ path. keyAtDepth path x) (λ path. keyAtDepth path (x ++ segment s i j)) l (omega arith) (λ lent path. scan-at-depth p path x lent)
+      (λ path v n t c. record { records = omega (arith, c .records); bytes = omega (arith, c .bytes, length-segment s i j l w, length-append x (segment s i j)) })
+
+  pub root-scan : {W X : List ℕ} {h : Here} {nests : Bool} → nests ≡ not (eqb (config .depth) 0) → Passed (RootKey nests) config s i j
+      → Move config s W X h i (still (λ path. rootKey [])) W X h j (still (λ path. rootKey (segment s i j)))
+  root-scan {nests = nests} e p =
+      mode-move (λ path. rootKey []) (λ path. rootKey (segment s i j)) l (omega arith) (λ lent path. scan-root nests e p lent)
+      (λ path v n t c. root-covered (segment s i j) (length-segment s i j l w) v n t c)
+    where
+      root-covered : (x : List ℕ) → length x ≡ j - i → (v : Value) (n : ℕ) (t : List ℕ) → Covered i (rootKey []) v n t → Covered j (rootKey x) v n t
+      root-covered [] e v n t c = record { records = omega (arith, c .records); bytes = omega (arith, c .bytes) }
+      root-covered (b ∷ x) e v n t c = record { records = omega (arith, c .records); bytes = omega (arith, c .bytes) }
+
+-- A step that `&` and the end make alike.
+pub ends-step : (config : Config) (m : Mode) (o : Option Symbol) (raw : List ℕ) → stops ValueScan o ≡ true
+    → ((r : List ℕ) → step config m ampersand r ≡ finish config m then rootKey [])
+    → stepBy config m o raw ≡ finish config m then rootKey []
+ends-step config m (some ampersand) raw e f = f raw
+ends-step config m (some equals) raw e f = true-false (sym e)
+ends-step config m (some opening) raw e f = true-false (sym e)
+ends-step config m (some closing) raw e f = true-false (sym e)
+ends-step config m (some other) raw e f = true-false (sym e)
+ends-step config m none raw e f = refl

@@ -1,0 +1,49 @@
+// What is left of a pair, and of a level of brackets, once it is read.
+ghost use mathlib.Core.Path.{_≡_};
+ghost use Rattle.pairs.specs.Turns.{turnOf, levelOf};
+use cursor::Cursor;
+use tree::Here;
+use tree::Performed;
+
+// A pair is done: the next one starts at a place, where the tree stands so; or a refusal's number and place.
+pub enum Turn {
+    Going(usize, Here),
+    Refused(u32, usize),
+}
+
+// Where a reading stands in brackets: the record that they are for, document 01's "level", and the cursor.
+pub(crate) struct Nested {
+    pub(crate) here: Here,
+    pub(crate) level: usize,
+    pub(crate) cursor: Cursor,
+}
+
+// A `[` opens the next level of brackets; or the pair is done.
+pub(crate) enum Level {
+    Deeper(Nested),
+    Turned(Turn),
+}
+
+// The pair that a command ends at a place.
+pub(crate) fn turn_of(performed: Performed, place: usize) -> Turn
+    ensures { λ r. ⌜ r ≡ turnOf performed place ⌝ }
+{
+    match performed {
+        Performed::Made(there) => Turn::Going(place, there),
+        Performed::Refused(number) => Turn::Refused(number, place),
+    }
+}
+
+// The level of brackets that opens once a key is entered.
+pub(crate) fn level_of(performed: Performed, level: usize, cursor: Cursor) -> Level
+    ensures { λ r. ⌜ r ≡ levelOf performed level cursor ⌝ }
+{
+    match performed {
+        Performed::Made(there) => Level::Deeper(Nested {
+            here: there,
+            level: level,
+            cursor: cursor,
+        }),
+        Performed::Refused(number) => Level::Turned(Turn::Refused(number, cursor.place)),
+    }
+}

@@ -1,9 +1,0 @@
-use Rattle.parse.proofs.Roots.{nests-is}
-use Rattle.parse.proofs.root.nests.Statement.{statement}
-use Rattle.parse.proofs.root.nests.Tie as tie
-
-returns : tie.Need-returns
-returns c = nests-is (c .before .args .config .depth)
-
-pub nests-spec : {M : Type 1} → statement M
-nests-spec = tie.close (tie.spec returns)

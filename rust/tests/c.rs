@@ -1,0 +1,37 @@
+//! The exports as a C program calls them: include/qs.h compiles without a warning, and tests/c/calls.c gets
+//! the answers that it states.
+
+use std::path::{Path, PathBuf};
+use std::process::Command;
+
+/// Runs a command, and gives what it wrote; it has to succeed.
+fn run(command: &mut Command) -> String {
+    let output = command.output().expect("the command starts");
+    let written = [output.stdout, output.stderr].concat();
+    let written = String::from_utf8_lossy(&written).into_owned();
+    assert!(output.status.success(), "{command:?}\n{written}");
+    written
+}
+
+#[test]
+fn a_c_program_calls_each_export() {
+    let rust = Path::new(env!("CARGO_MANIFEST_DIR"));
+    let top = rust.parent().expect("this package is in the repository");
+    let program = PathBuf::from(env!("CARGO_TARGET_TMPDIR")).join("calls");
+    run(Command::new("cc")
+        .args([
+            "-std=c99",
+            "-pedantic",
+            "-Wall",
+            "-Wextra",
+            "-Werror",
+            "-O1",
+        ])
+        .arg("-I")
+        .arg(top.join("include"))
+        .arg(rust.join("tests/c/calls.c"))
+        .arg(top.join("target/staticlib/libqs.a"))
+        .arg("-o")
+        .arg(&program));
+    print!("{}", run(&mut Command::new(&program)));
+}
