@@ -1,17 +1,8 @@
 //! Writes the stored answers that the program `replay` reads: `rust/cargo.sh run --release --example store > crates/replay/stdin`.
 //!
-//! A case is a reading and everything that it has to answer and to leave. The words, the counts and what small buffers do come from
-//! the model; each of the model's trees and each refusal 4 to 13 is held against serde_qs 1.1.3 before it is written.
-//!
-//! All numbers are of 32 bits with the lowest byte first, and nothing is padded. First the number of cases, then one case after another:
-//!
-//! 1. nine numbers: depth, form flag, words lent, text bytes lent, length of the input, and the answer: number, place, records used,
-//!    text bytes used;
-//! 2. the input's bytes;
-//! 3. the words of the used records, eight numbers each;
-//! 4. the used text bytes.
-//!
-//! The lent buffers hold anything but zero before. Under numbers 1 to 3 they have to stay so; else what isn't used has to be zero.
+//! A case is a reading and everything that it has to answer and to leave; crates/replay/FORMAT.md says how cases are laid out. The words,
+//! the counts and what small buffers do come from the model; each of the model's trees and each refusal 4 to 13 is held against
+//! serde_qs 1.1.3 before it is written.
 
 #[path = "../tests/common/mod.rs"]
 pub(crate) mod common;
@@ -32,7 +23,7 @@ const BEFORE: u8 = 7;
 const DEPTHS: [u32; 5] = [0, 1, 2, 5, 64];
 
 /// Document 01's "Tickets to try" at depth 5, in its order, with the flag.
-const TICKETS: [(&[u8], bool); 35] = [
+const INPUTS_TO_TRY: [(&[u8], bool); 35] = [
     (b"", false),
     (b"&&", false),
     (b"a[&b]=1", false),
@@ -80,7 +71,7 @@ fn main() -> io::Result<()> {
 /// The whole file.
 pub fn file() -> Vec<u8> {
     let mut store = Store::default();
-    store.tickets();
+    store.inputs_to_try();
     store.limits();
     store.drawn();
     let mut file = store.cases.to_le_bytes().to_vec();
@@ -97,8 +88,8 @@ struct Store {
 }
 
 impl Store {
-    fn tickets(&mut self) {
-        for (input, form) in TICKETS {
+    fn inputs_to_try(&mut self) {
+        for (input, form) in INPUTS_TO_TRY {
             self.add(Config { depth: 5, form }, input, MOST_WORDS, MOST_BYTES);
         }
         let depth = |depth| Config { depth, form: false };

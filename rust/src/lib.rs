@@ -113,15 +113,15 @@ impl Default for Config {
 #[derive(Clone, Copy, Debug, PartialEq, Eq)]
 pub struct Reading {
     pub number: u32,
-    /// Where a refusal was met, in bytes from the input's start and past the byte that was taken last.
+    /// Where a refusal was met: the bytes taken so far, the end counted as one; 0 where the reading was accepted.
     pub place: u32,
-    /// The records and the bytes of text that an accepted reading uses.
+    /// The records and the bytes of text that are used; both 0 where the reading was refused.
     pub records: u32,
     pub bytes: u32,
 }
 
-/// Reads a query string into lent records of eight words, and text. For `n` bytes of input `n + 1` records and `n` bytes of text
-/// always suffice.
+/// Reads a query string into lent records of eight words, and text. For `n` bytes of input `n + 1` records, which are `8 * (n + 1)`
+/// words, and `n` bytes of text always suffice.
 ///
 /// ```
 /// let (mut records, mut text) = ([0; 32], [0; 3]);

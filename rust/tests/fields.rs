@@ -362,7 +362,7 @@ fn random_names_and_buffers() {
     );
 }
 
-/// A list's slice around two words an element; 22 comes before anything about an element, and after the field's own kind.
+/// A list's slice around two words an element; 22 comes before anything about an element.
 #[test]
 fn slices_of_a_list() {
     let mut counts = Counts::default();
@@ -397,7 +397,18 @@ fn slices_of_a_list() {
             }
         }
     }
-    let kind = Read {
+    counts.report(
+        "slices around two words an element",
+        &[0, 18, 19, 21],
+        &[0, 18, 19, 20, 21, 22],
+    );
+}
+
+/// 22 comes after the field's own kind.
+#[test]
+fn a_field_of_the_wrong_kind_with_any_slice() {
+    let mut counts = Counts::default();
+    let read = Read {
         config: Config::default(),
         duplicates: TakeLast,
         input: b"a[b]=1&a[c]=2",
@@ -406,16 +417,11 @@ fn slices_of_a_list() {
     for list in 0..6 {
         let sizes = Sizes {
             list,
-            ..Sizes::ample(13)
+            ..Sizes::ample(read.input.len())
         };
-        let (_, answer) = counts.with_the_model(kind, sizes);
+        let (_, answer) = counts.with_the_model(read, sizes);
         assert_eq!(answer.reading.number, 18);
     }
-    counts.report(
-        "slices around two words an element",
-        &[0, 18, 19, 21],
-        &[0, 18, 19, 20, 21, 22],
-    );
 }
 
 /// Refusals 1 to 3 leave every buffer as it was.

@@ -2,7 +2,7 @@
 
 mod common;
 
-use common::tree;
+use common::{leave_out, tree};
 use model::{read, Config, WIDTH};
 use serde_qs_reference::{Key, Tree};
 use std::collections::BTreeMap;
@@ -15,18 +15,16 @@ use std::process::{Command, Stdio};
 const RECORDS: usize = 2_000;
 const BYTES: usize = 65_535;
 
-/// The program, which `rt ci` and `rt check list` build. Where it is missing, the calling test says that it is left out; in
-/// continuous integration (CI is set) it fails instead.
+/// The program, which `rt ci` and `rt check list` build. Where it is missing, the calling test is left out.
 fn program() -> Option<PathBuf> {
     let path = Path::new(env!("CARGO_MANIFEST_DIR")).join("../target/bin/list");
     if path.is_file() {
         return Some(path);
     }
-    let why = format!("{} is missing: run `rt check list`", path.display());
-    let ci = std::env::var("CI").is_ok_and(|set| !set.is_empty() && set != "false");
-    assert!(!ci, "{why}");
-    // Not by eprintln!, which the test harness would keep to itself.
-    let _ = writeln!(std::io::stderr(), "LEFT OUT: {why}");
+    leave_out(&format!(
+        "{} is missing: run `rt check list`",
+        path.display()
+    ));
     None
 }
 
@@ -40,7 +38,7 @@ fn print(program: &Path, input: &[u8]) -> String {
         .expect("the listing program starts");
     let mut stdin = child.stdin.take().expect("it is piped");
     let output = std::thread::scope(|scope| {
-        // The program doesn't read an input on that is too long, so that writing may fail.
+        // The program stops reading where the input is too long, so that writing may fail.
         scope.spawn(move || drop(stdin.write_all(input)));
         child.wait_with_output().expect("the listing program ends")
     });

@@ -7,7 +7,7 @@ use common::inputs::{long_query, query, BYTES};
 use common::{every_string, reference_is_there, tree, Random};
 use model::{read, Config, WIDTH};
 
-/// The model's answer with n + 1 records and n text bytes.
+/// Compares the model, with n + 1 records and n text bytes, and gives whether it accepts.
 fn compare(config: Config, input: &[u8]) -> bool {
     let words = vec![7; (input.len() + 1) * WIDTH];
     let text = vec![7; input.len()];

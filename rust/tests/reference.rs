@@ -1,5 +1,5 @@
 //! Document 01's own inputs ("Tickets to try"), as the crate itself reads them: the reference that
-//! later comparisons rest on gives the trees, numbers and places that the document states.
+//! the other comparisons rest on gives the trees, numbers and places that the document states.
 //! Refusals 1 to 3, 14 and 15 are additions of the document, and the crate has none of them.
 
 mod common;

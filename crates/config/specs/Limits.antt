@@ -1,4 +1,5 @@
--- Document 01, 'Settings and the lent buffers': the limits and the width of a record, each named once. The code has the limits as constants of `Config`.
+-- Document 01, 'Settings and the lent buffers': the limits and the width of a record, each named once.
+-- The code has the limits as constants of `Config`, the width as one of crate records' module store.
 use Prim.Native.Nat.{ℕ}
 
 -- "Depth 0 to 64"

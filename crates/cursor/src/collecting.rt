@@ -1,13 +1,13 @@
 // A segment as a key or a value. Nothing is decoded here: a String is answered by the bounds of its raw segment.
+ghost use Prim.Native.Nat.{_<_, _≤_};
+ghost use lib.ListN.{length};
+ghost use Rattle.cursor.specs.Collected.{CollectedIs, KeyIs, ValueIs};
 use crate::scanning::Until;
 use crate::scanning::take_until;
 use crate::taking::Cursor;
 use crate::taking::clear_acc;
 use config::Config;
 use key::KeyKind;
-ghost use Prim.Native.Nat.{_<_, _≤_};
-ghost use lib.ListN.{length};
-ghost use Rattle.cursor.specs.Collected.{CollectedIs, KeyIs, ValueIs};
 
 // A key: an Int, or the bounds of a String's raw segment.
 pub enum Key {

@@ -1,14 +1,14 @@
 // Scans: takings up to a symbol that ends them. The source has a loop for each; here it is one.
-use crate::taking::Cursor;
-use crate::taking::Symbol;
-use crate::taking::Taken;
-use crate::taking::take;
-use config::Config;
 ghost use mathlib.Core.Path.{_≡_};
 ghost use Prim.Native.Nat.{_≤_};
 ghost use lib.ListN.{length};
 ghost use Rattle.cursor.specs.Takings.{yielded};
 ghost use Rattle.cursor.specs.Scans.{stopsOf, stopsAt, Scanned};
+use crate::taking::Cursor;
+use crate::taking::Symbol;
+use crate::taking::Taken;
+use crate::taking::take;
+use config::Config;
 
 // What is scanned: a value, a bracket's key below the depth, which a `]` ends, a key at the depth, or a root key, which a `[` ends too
 // where brackets nest.

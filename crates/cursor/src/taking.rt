@@ -1,11 +1,11 @@
 // One taking (document 01, 'Taking a byte').
-use config::Config;
 ghost use mathlib.Core.Path.{_≡_};
 ghost use mathlib.Core.Option.{some};
 ghost use Prim.Native.Nat.{_≤_};
 ghost use lib.ListN.{length, drop};
 ghost use Rattle.reading.specs.Taking.{symbolOf, escape};
 ghost use Rattle.cursor.specs.Takings.{yielded, number, sameSymbol, escapeOf, escapeIn, advanced, Next};
+use config::Config;
 
 // Document 01's "place", the number of bytes taken, and the bounds of the raw segment that is being read (`index` and `acc` in the source).
 pub struct Cursor {
@@ -117,12 +117,12 @@ fn advance(symbol: Symbol, cursor: Cursor, place: usize) -> Taken
     ensures { λ r. ⌜ r ≡ advanced symbol cursor place ⌝ }
 {
     let moved = Cursor {
-        place: place,
+        place,
         start: cursor.start,
         end: cursor.place,
     };
     Taken {
-        symbol: symbol,
+        symbol,
         cursor: moved,
     }
 }
@@ -161,7 +161,7 @@ pub fn take(input: &[u8], config: Config, cursor: Cursor) -> Taken
     let mut moved = cursor;
     let symbol = next(&mut moved, input, config);
     Taken {
-        symbol: symbol,
+        symbol,
         cursor: moved,
     }
 }
@@ -171,7 +171,7 @@ pub fn clear_acc(place: usize) -> Cursor
     ensures { λ r. ⌜ (r .place ≡ place) × (r .start ≡ place) × (r .end ≡ place) ⌝ }
 {
     Cursor {
-        place: place,
+        place,
         start: place,
         end: place,
     }

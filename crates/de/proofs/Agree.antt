@@ -17,7 +17,7 @@ use Rattle.records.specs.Words.{kindWord, keyKindWord, keyWord, keyLengthWord, 
 use Rattle.records.specs.Store.{recordCount, word}
 use Rattle.records.specs.Records.{keyWordsAt, valueAt}
 use Rattle.records.specs.Siblings.{children, lastOf}
-use Rattle.records.specs.Nodes.{first, size, count as countNodes}
+use Rattle.records.specs.Nodes.{first, size, count}
 use Rattle.records.specs.Holds.{Row, Represents}
 use Rattle.records.proofs.Forests.{indicator-same, numbers, chain-numbers, numbers-size}
 use Rattle.tree.specs.Nodes.{labelWords, recordOf, below, nodes}
@@ -31,7 +31,7 @@ use Rattle.de.specs.declared.text.TextRead.{TextRead}
 use Rattle.de.specs.declared.text.TextRead.the-variants.{Refused}
 use Rattle.de.specs.Fields.{Field, found, refused, isNamed, named, rootField}
 use Rattle.de.specs.Texts.{singleText, lastText, several, textOf}
-use Rattle.de.specs.Lists.{isNext, inTurn, count, elements, intKeys, listOf}
+use Rattle.de.specs.Lists.{isNext, inTurn, childCount, elements, intKeys, listOf}
 use Rattle.de.specs.Reads.{textOfField, listOfField}
 use Rattle.de.specs.OnRecords.{stringTextAt, singleTextAt, severalAt, sequenceTextAt, textAt, isNamedAt, namedAt, fieldAt, fieldTextAt, intKeysAt, isNextAt, elementAt, inTurnAt, elementsAt, oneAt, listAt, fieldListAt}
 
@@ -39,7 +39,7 @@ use Rattle.de.specs.OnRecords.{stringTextAt, singleTextAt, severalAt, se
 pub record Among (ws text : List ℕ) (cs : Forest) : Type 0 where
   pub represents : Represents ws (nodes cs)
   pub texts : LaidAll text cs
-  pub no-root : countNodes 0 (nodes cs) ≡ 0
+  pub no-root : count 0 (nodes cs) ≡ 0
   pub small : size (nodes cs) ≤ recordCount ws
 
 -- They hold a value, with its key, at record n.
@@ -48,7 +48,7 @@ pub record At (ws text : List ℕ) (n : ℕ) (l : Label) (v : Value) : Type 0 wh
   pub row : Row ws n (recordOf l v) (first (below v)) later
   pub represents : Represents ws (below v)
   pub texts : Laid text v
-  pub no-root : countNodes 0 (below v) ≡ 0
+  pub no-root : count 0 (below v) ≡ 0
   pub small : size (below v) ≤ recordCount ws
 
 module _ {ws text : List ℕ} {m : ℕ} {l : Label} {v : Value} {cs : Forest} (k : Among ws text (child m l v cs)) where
@@ -68,7 +68,7 @@ module _ {ws text : List ℕ} {m : ℕ} {l : Label} {v : Value} {cs : Forest} (k
       record { represents = k .represents .2; texts = k .texts .2; no-root = omega (arith, k .no-root); small = omega (arith, k .small) }
 
   pub not-zero : m ≢ 0
-  not-zero e = omega (arith, k .no-root, indicator-same m, ap (λ (i : ℕ). countNodes i (nodes (child m l v cs))) (sym e))
+  not-zero e = omega (arith, k .no-root, indicator-same m, ap (λ (i : ℕ). count i (nodes (child m l v cs))) (sym e))
 
 module _ {ws text : List ℕ} {n : ℕ} {l : Label} {v : Value} (k : At ws text n l v) where
   pub value-kind : word ws n kindWord ≡ kind v
@@ -185,7 +185,7 @@ module _ {ws text : List ℕ} (name : List ℕ) where
   field-agrees (map cs) k = rw (value-kind k, children-of k) (named-agrees cs (map-among k))
   field-agrees (sequence cs) k = rw (value-kind k) nowhere
 
-count-agrees : (cs : Forest) → length (numbers (nodes cs)) ≡ count cs
+count-agrees : (cs : Forest) → length (numbers (nodes cs)) ≡ childCount cs
 count-agrees none = refl
 count-agrees (child m l v cs) = ap suc (count-agrees cs)
 

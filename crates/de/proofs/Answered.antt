@@ -27,7 +27,7 @@ use Rattle.de.specs.declared.text.TextRead.the-variants.{Text, Refused}
 use Rattle.de.specs.Refusals.{code}
 use Rattle.de.specs.Fields.{Field, found, isNamed, named, rootField}
 use Rattle.de.specs.Texts.{singleText, lastText, several, textOf}
-use Rattle.de.specs.Lists.{Listed, listed, prepend, isNext, elementText, inTurn, count, elements, intKeys, listOf}
+use Rattle.de.specs.Lists.{Listed, listed, prepend, isNext, elementText, inTurn, childCount, elements, intKeys, listOf}
 use Rattle.de.specs.Reads.{TextOutcome, textAnswer, textOfField, textAfter, textRead, listAnswer, listOutcome, listOfField, listAfter, listRead}
 use Rattle.de.specs.Answered.{ValidText, TextAnswered, ValidElements, ListAnswered}
 use Rattle.de.proofs.Stored.{lies-le}
@@ -117,7 +117,7 @@ module _ (t zs : List ℕ) where
       (turn-valid d (suc i) cs (h .2))
 
   elements-valid : (d : DuplicateKeyBehavior) (size : ℕ) (cs : Forest) → LaidAll t cs → ValidListed (elements d size cs)
-  elements-valid d size cs h = split (ltb size (2 * count cs)) (λ e. rw e tt) (λ e. rw e (turn-valid d 0 cs h))
+  elements-valid d size cs h = split (ltb size (2 * childCount cs)) (λ e. rw e tt) (λ e. rw e (turn-valid d 0 cs h))
 
   list-valid : (d : DuplicateKeyBehavior) (size : ℕ) (v : Value) → Laid t v → ValidListed (listOf d size v)
   list-valid d size uninitialized h = tt

@@ -11,7 +11,7 @@ use Rattle.de.specs.declared.DuplicateKeyBehavior.{DuplicateKeyBehavior}
 use Rattle.de.specs.declared.text.TextRead.{TextRead}
 use Rattle.de.specs.declared.text.TextRead.the-variants.{Text, Refused}
 use Rattle.de.specs.Fields.{Field, found, isNamed, named, rootField}
-use Rattle.de.specs.Lists.{Listed, listed, prepend, elementText, inTurn, count, elements, intKeys, listOf}
+use Rattle.de.specs.Lists.{Listed, listed, prepend, elementText, inTurn, childCount, elements, intKeys, listOf}
 use Rattle.de.specs.Reads.{listOfField}
 
 -- The records of a field, and the elements of a list, are at most n.
@@ -50,7 +50,7 @@ module _ (d : DuplicateKeyBehavior) where
 
   module _ {n : ℕ} (room : ℕ) where
     few-elements : (cs : Forest) → size (nodes cs) ≤ n → FewElements n (elements d room cs)
-    few-elements cs h = split (ltb room (2 * count cs)) (λ e. rw e tt) (λ e. rw e (few-in-turn 0 cs h))
+    few-elements cs h = split (ltb room (2 * childCount cs)) (λ e. rw e tt) (λ e. rw e (few-in-turn 0 cs h))
 
     few-in-list : (v : Value) → size (rooted v) ≤ n → FewElements n (listOf d room v)
     few-in-list uninitialized h = tt

@@ -10,6 +10,7 @@ use Rattle.reading.specs.Buffers.{textPart}
 use Rattle.de.specs.declared.DuplicateKeyBehavior.{DuplicateKeyBehavior}
 use Rattle.de.specs.Reads.{TextOutcome, textRead, ListOutcome, listRead}
 
+-- The text at an offset, of a length.
 pub record ValidText (o : TextOutcome) (offset len : ℕ) : Type 0 where
   pub inside : offset + len ≤ o .answer .bytes
   pub valid : Utf8 (textPart (o .text) offset len)

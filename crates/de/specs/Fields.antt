@@ -24,6 +24,7 @@ isNamed name unkeyed = false
 isNamed name (intKey a) = false
 isNamed name (stringKey o x) = sameBytes x name
 
+-- The value of the first child of that name.
 abbrev pub named : List ℕ → Forest → Field
 named name none = refused NoSuchField
 named name (child number label value later) = cond (isNamed name label) (found value) (named name later)

@@ -38,13 +38,14 @@ inTurn duplicates i none = listed 0 []
 inTurn duplicates i (child number label value later) =
     prepend (elementText duplicates i label value) (inTurn duplicates (suc i) later)
 
-abbrev pub count : Forest → ℕ
-count none = 0
-count (child number label value later) = suc (count later)
+-- How many elements there are.
+abbrev pub childCount : Forest → ℕ
+childCount none = 0
+childCount (child number label value later) = suc (childCount later)
 
 -- "22 slice below two words an element; then at each element's turn"
 abbrev pub elements : DuplicateKeyBehavior → ℕ → Forest → Listed
-elements duplicates size children = cond (ltb size (2 * count children)) (refused ShortSlice) (inTurn duplicates 0 children)
+elements duplicates size children = cond (ltb size (2 * childCount children)) (refused ShortSlice) (inTurn duplicates 0 children)
 
 -- "Map of Int keys only"
 abbrev pub intKeys : Forest → Bool

@@ -56,6 +56,7 @@ sequenceTextAt duplicates ws text n =
     (cond (severalAt duplicates (word ws (word ws n childWord) nextWord)) (Refused SeveralValues)
     (singleTextAt ws text (lastOf 0 (children ws n))))
 
+-- The text of record n.
 unfoldable pub textAt : DuplicateKeyBehavior → List ℕ → List ℕ → ℕ → TextRead
 textAt duplicates ws text n =
     cond (eqb (word ws n kindWord) sequenceKind) (sequenceTextAt duplicates ws text n) (singleTextAt ws text n)
@@ -113,6 +114,7 @@ elementsAt duplicates ws text size n =
 unfoldable pub oneAt : List ℕ → List ℕ → ℕ → ℕ → Listed
 oneAt ws text size n = cond (ltb size 2) (refused ShortSlice) (prepend (singleTextAt ws text n) (listed 0 []))
 
+-- The list of record n, into a slice of so many words.
 unfoldable pub listAt : DuplicateKeyBehavior → List ℕ → List ℕ → ℕ → ℕ → Listed
 listAt duplicates ws text size n =
     cond (eqb (word ws n kindWord) stringKind) (oneAt ws text size n)

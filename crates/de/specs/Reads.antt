@@ -38,6 +38,7 @@ unread o =
 abbrev pub refusedAnswer : ℕ → ℕ → Refusal → FieldRead
 refusedAnswer records bytes x = record { number = code x; place = 0; records = records; bytes = bytes; offset = 0; len = 0 }
 
+-- The result of a text read.
 abbrev pub textAnswer : ℕ → ℕ → TextRead → FieldRead
 textAnswer records bytes (Text offset len) =
     record { number = 0; place = 0; records = records; bytes = bytes; offset = offset; len = len }
@@ -66,6 +67,7 @@ pub record ListOutcome : Type 0 where
   pub read : TextOutcome
   pub list : List ℕ
 
+-- The field's list, into a slice of so many words.
 abbrev pub listOfField : DuplicateKeyBehavior → ℕ → Field → Listed
 listOfField duplicates size (found value) = listOf duplicates size value
 listOfField duplicates size (refused x) = Listed.refused x
@@ -81,6 +83,7 @@ abbrev pub listWords : ℕ → Listed → List ℕ
 listWords size (listed count words) = words ++ replicate (size - length words) 0
 listWords size (Listed.refused x) = replicate size 0
 
+-- After an accepted reading, with the length of the list's slice.
 abbrev pub listOutcome : Outcome → ℕ → Listed → ListOutcome
 listOutcome o size read =
     record {

@@ -31,6 +31,7 @@ several Error none = false
 several Error (child number label value none) = false
 several Error (child number label value (child number′ label′ value′ later)) = true
 
+-- The text of a value.
 abbrev pub textOf : DuplicateKeyBehavior → Value → TextRead
 textOf duplicates uninitialized = singleText uninitialized
 textOf duplicates null = singleText null

@@ -62,7 +62,8 @@ fn find_named(words: &[u32], text: &[u8], name: &[u8]) -> FieldAt
     FieldAt::Refused(Refusal::NoSuchField)
 }
 
-// The field of a name in the root, as `deserialize_map` of the source and its `field_order` find it. A String root has the empty name only.
+// The field of a name in the root, as the source's `deserialize_map` and `field_order` (in `MapDeserializer`) find it. A String root has the empty
+// name only.
 pub(crate) fn root_field(words: &[u32], text: &[u8], name: &[u8]) -> FieldAt
     requires { ⌜ Readable (now words) (now text) ⌝ ∗ ⌜ 0 < recordCount (now words) ⌝ }
     ensures { λ r. ⌜ r ≡ fieldAt (now (words .entry)) (now (text .entry)) (now (name .entry)) ⌝ }

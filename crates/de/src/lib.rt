@@ -1,6 +1,7 @@
 // Field reads: a reading, then the field of a name in the root as a text or as a list; `deserialize_str` and `deserialize_seq` of the source's
 // src/de.rs. What is promised stands in specs/Reads, and of the texts that are answered in specs/Answered.
-// Below it stand the reader (parse), the records (records), the test for UTF-8 (utf8) and the definitions (reading).
+// Below it stand the reader (parse), the records and the tree that they hold (records, tree), the test for UTF-8 (utf8) and the definitions
+// (reading).
 mod field; // the field of a name
 mod list; // the list of a record
 mod refusals; // refusals 16 to 22
@@ -87,7 +88,7 @@ fn list_answer(records: u32, bytes: u32, read: ListRead) -> FieldRead
     }
 }
 
-// What a refused reading leaves in a list: refusals 1 to 3 nothing else than it held, the later ones zeros.
+// What a refused reading leaves in a list: refusals 1 to 3 what it held, the later ones zeros.
 fn clear_after(number: u32, list: &mut [u32])
     ensures { λ _. ⌜ now (list .exit) ≡ cond (leb number 3) (now (list .entry)) (replicate (length (now (list .entry))) 0) ⌝ }
 {
@@ -106,7 +107,8 @@ pub fn deserialize_str(
     words: &mut [u32],
     text: &mut [u8],
 ) -> FieldRead
-    ensures { λ r. ⌜ record { answer = r; words = now (words .exit); text = now (text .exit) } ≡ textRead config duplicates (now (input .entry)) (now (name .entry)) (now (words .entry)) (now (text .entry)) ⌝ }
+    ensures { λ r. ⌜ record { answer = r; words = now (words .exit); text = now (text .exit) }
+        ≡ textRead config duplicates (now (input .entry)) (now (name .entry)) (now (words .entry)) (now (text .entry)) ⌝ }
 {
     match parse::parse(input, config, words, text) {
         Parsed::Accepted(records, bytes) => {
@@ -128,7 +130,8 @@ pub fn deserialize_seq(
     text: &mut [u8],
     list: &mut [u32],
 ) -> FieldRead
-    ensures { λ r. ⌜ record { read = record { answer = r; words = now (words .exit); text = now (text .exit) }; list = now (list .exit) } ≡ listRead config duplicates (now (input .entry)) (now (name .entry)) (now (words .entry)) (now (text .entry)) (now (list .entry)) ⌝ }
+    ensures { λ r. ⌜ record { read = record { answer = r; words = now (words .exit); text = now (text .exit) }; list = now (list .exit) }
+        ≡ listRead config duplicates (now (input .entry)) (now (name .entry)) (now (words .entry)) (now (text .entry)) (now (list .entry)) ⌝ }
 {
     match parse::parse(input, config, words, text) {
         Parsed::Accepted(records, bytes) => {

@@ -97,8 +97,10 @@ fn read_in_turn(
     duplicates: DuplicateKeyBehavior,
     list: &mut [u32],
 ) -> ListRead
-    requires { ⌜ Readable (now words) (now text) ⌝ ∗ ⌜ n < recordCount (now words) ⌝ ∗ ⌜ now list ≡ replicate (length (now list)) 0 ⌝ ∗ ⌜ 2 * length (children (now words) n) ≤ length (now list) ⌝ }
-    ensures { λ r. ⌜ Writes (length (now (list .entry))) (now (list .exit)) (inTurnAt duplicates (now (words .entry)) (now (text .entry)) 0 (children (now (words .entry)) n)) r ⌝ }
+    requires { ⌜ Readable (now words) (now text) ⌝ ∗ ⌜ n < recordCount (now words) ⌝ ∗ ⌜ now list ≡ replicate (length (now list)) 0 ⌝
+        ∗ ⌜ 2 * length (children (now words) n) ≤ length (now list) ⌝ }
+    ensures { λ r. ⌜ Writes (length (now (list .entry))) (now (list .exit))
+        (inTurnAt duplicates (now (words .entry)) (now (text .entry)) 0 (children (now (words .entry)) n)) r ⌝ }
 {
     let mut i: usize = 0;
     let mut cur = store::get_word(words, n, store::CHILD);
@@ -126,7 +128,8 @@ fn read_children(
     list: &mut [u32],
 ) -> ListRead
     requires { ⌜ Readable (now words) (now text) ⌝ ∗ ⌜ n < recordCount (now words) ⌝ ∗ ⌜ now list ≡ replicate (length (now list)) 0 ⌝ }
-    ensures { λ r. ⌜ Writes (length (now (list .entry))) (now (list .exit)) (elementsAt duplicates (now (words .entry)) (now (text .entry)) (length (now (list .entry))) n) r ⌝ }
+    ensures { λ r. ⌜ Writes (length (now (list .entry))) (now (list .exit))
+        (elementsAt duplicates (now (words .entry)) (now (text .entry)) (length (now (list .entry))) n) r ⌝ }
 {
     let count = count_children(words, n);
     if list.len() < 2 * count {
@@ -138,7 +141,8 @@ fn read_children(
 // Reads a String as the one element of a list into a cleared slice.
 fn read_one(words: &[u32], text: &[u8], n: u32, list: &mut [u32]) -> ListRead
     requires { ⌜ Readable (now words) (now text) ⌝ ∗ ⌜ n < recordCount (now words) ⌝ ∗ ⌜ now list ≡ replicate (length (now list)) 0 ⌝ }
-    ensures { λ r. ⌜ Writes (length (now (list .entry))) (now (list .exit)) (oneAt (now (words .entry)) (now (text .entry)) (length (now (list .entry))) n) r ⌝ }
+    ensures { λ r. ⌜ Writes (length (now (list .entry))) (now (list .exit))
+        (oneAt (now (words .entry)) (now (text .entry)) (length (now (list .entry))) n) r ⌝ }
 {
     if list.len() < 2 {
         return ListRead::Refused(Refusal::ShortSlice);
@@ -161,7 +165,8 @@ fn read_list(
     list: &mut [u32],
 ) -> ListRead
     requires { ⌜ Readable (now words) (now text) ⌝ ∗ ⌜ n < recordCount (now words) ⌝ ∗ ⌜ now list ≡ replicate (length (now list)) 0 ⌝ }
-    ensures { λ r. ⌜ Writes (length (now (list .entry))) (now (list .exit)) (listAt duplicates (now (words .entry)) (now (text .entry)) (length (now (list .entry))) n) r ⌝ }
+    ensures { λ r. ⌜ Writes (length (now (list .entry))) (now (list .exit))
+        (listAt duplicates (now (words .entry)) (now (text .entry)) (length (now (list .entry))) n) r ⌝ }
 {
     let kind = store::get_word(words, n, store::KIND);
     if kind == store::STRING {
@@ -191,7 +196,8 @@ fn read_or_clear(
     list: &mut [u32],
 ) -> ListRead
     requires { ⌜ Readable (now words) (now text) ⌝ ∗ ⌜ n < recordCount (now words) ⌝ ∗ ⌜ now list ≡ replicate (length (now list)) 0 ⌝ }
-    ensures { λ r. ⌜ Leaves (length (now (list .entry))) (now (list .exit)) (listAt duplicates (now (words .entry)) (now (text .entry)) (length (now (list .entry))) n) r ⌝ }
+    ensures { λ r. ⌜ Leaves (length (now (list .entry))) (now (list .exit))
+        (listAt duplicates (now (words .entry)) (now (text .entry)) (length (now (list .entry))) n) r ⌝ }
 {
     match read_list(words, text, n, duplicates, list) {
         ListRead::Elements(count) => ListRead::Elements(count),
@@ -211,7 +217,9 @@ pub(crate) fn field_list(
     list: &mut [u32],
 ) -> ListRead
     requires { ⌜ Readable (now words) (now text) ⌝ ∗ ⌜ 0 < recordCount (now words) ⌝ }
-    ensures { λ r. ⌜ Leaves (length (now (list .entry))) (now (list .exit)) (fieldListAt duplicates (now (words .entry)) (now (text .entry)) (length (now (list .entry))) (fieldAt (now (words .entry)) (now (text .entry)) (now (name .entry)))) r ⌝ }
+    ensures { λ r. ⌜ Leaves (length (now (list .entry))) (now (list .exit))
+        (fieldListAt duplicates (now (words .entry)) (now (text .entry)) (length (now (list .entry)))
+        (fieldAt (now (words .entry)) (now (text .entry)) (now (name .entry)))) r ⌝ }
 {
     clear_words(list);
     match field::root_field(words, text, name) {

@@ -103,7 +103,8 @@ pub(crate) fn field_text(
     duplicates: DuplicateKeyBehavior,
 ) -> TextRead
     requires { ⌜ Readable (now words) (now text) ⌝ ∗ ⌜ 0 < recordCount (now words) ⌝ }
-    ensures { λ r. ⌜ r ≡ fieldTextAt duplicates (now (words .entry)) (now (text .entry)) (fieldAt (now (words .entry)) (now (text .entry)) (now (name .entry))) ⌝ }
+    ensures { λ r. ⌜ r ≡ fieldTextAt duplicates (now (words .entry)) (now (text .entry))
+        (fieldAt (now (words .entry)) (now (text .entry)) (now (name .entry))) ⌝ }
 {
     match field::root_field(words, text, name) {
         FieldAt::Record(n) => read_text(words, text, n, duplicates),

@@ -8,7 +8,7 @@ use lib.Dec.{eqb}
 use Rattle.laws.proofs.Cases.{split, true-false, both}
 use Rattle.decode.specs.Hex.{digitOf, isHex, byteOf}
 use Rattle.decode.specs.Decoding.{decoded, plusToSpace}
-use Rattle.decode.specs.Shown.{plain}
+use Rattle.decode.specs.Shown.{plainByte}
 use Rattle.decode.specs.Whatwg.{percentDecode, whatwg, noneSwallowed}
 use Rattle.decode.specs.Agreement.{Agreement}
 
@@ -20,13 +20,13 @@ digit-spaced b = split (eqb b 43) (λ p. rw (eqb-true b 43 p)) (λ p. simp p)
 percent-spaced : (b : ℕ) → eqb (plusToSpace b) 37 ≡ eqb b 37
 percent-spaced b = split (eqb b 43) (λ p. rw (eqb-true b 43 p)) (λ p. simp p)
 
-plain-spaced : (b : ℕ) → plain b ≡ true → plusToSpace b ≡ b
+plain-spaced : (b : ℕ) → plainByte b ≡ true → plusToSpace b ≡ b
 plain-spaced b q = split (eqb b 43) (λ p. true-false (sym (simp p at q))) (λ p. simp p)
 
 percent-stays : (b : ℕ) → eqb b 37 ≡ true → plusToSpace b ≡ b
 percent-stays b p = rw (eqb-true b 37 p)
 
-plain-no-percent : (b : ℕ) → plain b ≡ true → eqb b 37 ≡ false
+plain-no-percent : (b : ℕ) → plainByte b ≡ true → eqb b 37 ≡ false
 plain-no-percent b q =
     split (eqb b 37)
     (λ p. split (eqb b 43) (λ s. true-false (sym (simp s at q))) (λ s. true-false (sym (simp (s, p) at q))))
@@ -39,7 +39,7 @@ whatwg-other x [] h = refl
 whatwg-other x (y ∷ []) h = refl
 whatwg-other x (y ∷ z ∷ r) h = simp (percent-spaced x, h)
 
-whatwg-plain : (x : ℕ) (t : List ℕ) → plain x ≡ true → whatwg (x ∷ t) ≡ x ∷ whatwg t
+whatwg-plain : (x : ℕ) (t : List ℕ) → plainByte x ≡ true → whatwg (x ∷ t) ≡ x ∷ whatwg t
 whatwg-plain x t q = whatwg-other x t (plain-no-percent x q) ∙ ap (λ b. b ∷ whatwg t) (plain-spaced x q)
 
 -- What a '%' and the bytes after it stand for.
@@ -88,15 +88,15 @@ agree (x ∷ y ∷ z ∷ r) e =
     split (isHex z)
     (λ s. simp (p, q, s) (ap (λ l. byteOf y z ∷ l) (agree r (simp (p, q, s) at e)) ∙ sym (whatwg-hex x y z r p q s)))
     (λ s.
-    let f = both (plain y) (cond (plain z) (noneSwallowed r) false) (simp (p, q, s) at e) in
-    let g = both (plain z) (noneSwallowed r) (f .1) in
+    let f = both (plainByte y) (cond (plainByte z) (noneSwallowed r) false) (simp (p, q, s) at e) in
+    let g = both (plainByte z) (noneSwallowed r) (f .1) in
     simp (p, q, s) (
     ap (λ l. x ∷ y ∷ z ∷ l) (agree r (g .1))
     ∙ ap (λ l. x ∷ y ∷ l) (sym (whatwg-plain z r (g .0)))
     ∙ ap (λ l. x ∷ l) (sym (whatwg-plain y (z ∷ r) (f .0)))
     ∙ sym (whatwg-second x y z r p q s))))
     (λ q.
-    let f = both (plain y) (noneSwallowed (z ∷ r)) (simp (p, q) at e) in
+    let f = both (plainByte y) (noneSwallowed (z ∷ r)) (simp (p, q) at e) in
     simp (p, q) (
     ap (λ l. x ∷ y ∷ l) (agree (z ∷ r) (f .1))
     ∙ ap (λ l. x ∷ l) (sym (whatwg-plain y (z ∷ r) (f .0)))

@@ -9,13 +9,14 @@ use borrow.Author.Tests.{leb-true, ne-eqb}
 use lib.Dec.{eqb, leb}
 use lib.ListN.{length, take, drop, getD, set, length-set, drop-of-length-le, take-append-drop}
 use lib.Seq.{take-suc-set, drop-set-lt, drop-drop}
-use Rattle.laws.proofs.Cases.{split}
+use Rattle.laws.proofs.Cases.{split, true-false}
 use Rattle.laws.proofs.Lists.{drop-1}
+use Rattle.decode.specs.declared.Decoded.{Decoded}
 use Rattle.decode.specs.declared.Decoded.the-variants.{Yes, No}
 use Rattle.decode.specs.Hex.{isHex}
-use Rattle.decode.specs.Decoding.{decoded, answer}
+use Rattle.decode.specs.Decoding.{decoded, fitsIn, answerOf, answer}
 use Rattle.decode.specs.Stepping.{rest, Yields}
-use Rattle.decode.specs.Shown.{plain, allPlain}
+use Rattle.decode.specs.Shown.{plainByte, allPlain}
 use Rattle.decode.proofs.Steps.{rest-zero, rest-done}
 
 -- Decoding never lengthens.
@@ -79,13 +80,23 @@ writing-done {raw} {out₀} {out} {i} {k} {n} v h =
     let m : n ≡ length (decoded raw) = counting-done (v .counts) h in
     sym (take-append-drop n out) ∙ rw (e, v .beyond, m)
 
--- A yes says that the bytes fit.
-pub answer-fits : (raw out : List ℕ) (n : ℕ) → answer raw out ≡ Yes n → n ≤ length out
-answer-fits raw out n e = go (leb (length (decoded raw)) (length out)) refl e
+-- The enum that has the answer.
+pub told : (raw out : List ℕ) (d : Decoded) → answerOf d ≡ answer raw out → d ≡ cond (fitsIn raw out) (Yes (length (decoded raw))) No
+told raw out d = go d (fitsIn raw out)
   where
-    go : (b : Bool) → leb (length (decoded raw)) (length out) ≡ b → cond b (Yes (length (decoded raw))) No ≡ Yes n → n ≤ length out
-    go true t q = let m : length (decoded raw) ≡ n = cc in omega (arith, leb-true (length (decoded raw)) (length out) t)
-    go false t q = let z : _≡_ {A = ℕ} 0 1 = cc in absurd (omega arith)
+    go : (d : Decoded) (b : Bool) → answerOf d ≡ cond b (true, length (decoded raw)) (false, 0) → d ≡ cond b (Yes (length (decoded raw))) No
+    go (Yes n) true q = ap Yes (ap (λ (a : Bool × ℕ). a .1) q)
+    go (Yes n) false q = true-false (ap (λ (a : Bool × ℕ). a .0) q)
+    go No true q = true-false (sym (ap (λ (a : Bool × ℕ). a .0) q))
+    go No false q = refl
+
+-- A yes says that the bytes fit.
+pub yes-fits : (raw out : List ℕ) (n : ℕ) → answerOf (Yes n) ≡ answer raw out → n ≤ length out
+yes-fits raw out n = go (fitsIn raw out) refl
+  where
+    go : (b : Bool) → fitsIn raw out ≡ b → answerOf (Yes n) ≡ cond b (true, length (decoded raw)) (false, 0) → n ≤ length out
+    go true t q = omega (arith, ap (λ (a : Bool × ℕ). a .1) q, leb-true (length (decoded raw)) (length out) t)
+    go false t q = true-false (ap (λ (a : Bool × ℕ). a .0) q)
 
 -- The loop that looks for '+' and '%'.
 pub record Looking (raw : List ℕ) (i : ℕ) : Type 0 where
@@ -101,7 +112,7 @@ module _ {raw : List ℕ} {i : ℕ} (v : Looking raw i) where
   looking-done h = rw (drop-of-length-le raw h) at (v .so-far)
 
   module _ (h : i < length raw) where
-    so-on : cond (plain (getD raw i 0)) (allPlain (drop (i + 1) raw)) false ≡ allPlain raw
+    so-on : cond (plainByte (getD raw i 0)) (allPlain (drop (i + 1) raw)) false ≡ allPlain raw
     unfolding allPlain
     so-on = rw (drop-1 raw i h) at (v .so-far)
 

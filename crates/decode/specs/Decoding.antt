@@ -1,6 +1,6 @@
 -- Document 01, 'Decoding': what a raw segment decodes to, what `decode` answers, and what it leaves in the output.
 use Prim.Native.Nat.{ℕ}
-use mathlib.Core.Bool.{Bool, cond}
+use mathlib.Core.Bool.{Bool, true, false, cond}
 use mathlib.Core.List.{List, [], _∷_, _++_}
 use lib.Dec.{eqb, leb}
 use lib.ListN.{length, drop}
@@ -29,9 +29,14 @@ decoded (x ∷ y ∷ z ∷ r) =
 abbrev pub fitsIn : List ℕ → List ℕ → Bool
 fitsIn raw out = leb (length (decoded raw)) (length out)
 
--- "it answers yes and the decoded length, or, exactly if the decoded bytes don't fit, no"
-abbrev pub answer : List ℕ → List ℕ → Decoded
-answer raw out = cond (fitsIn raw out) (Yes (length (decoded raw))) No
+-- Document 01's values of an answer: "yes and the decoded length", or "no and 0".
+abbrev pub answerOf : Decoded → Bool × ℕ
+answerOf (Yes n) = (true, n)
+answerOf No = (false, 0)
+
+-- "it answers yes and the decoded length, or, exactly if the decoded bytes don't fit, no and 0"
+abbrev pub answer : List ℕ → List ℕ → Bool × ℕ
+answer raw out = cond (fitsIn raw out) (true, length (decoded raw)) (false, 0)
 
 -- What it leaves: the decoded bytes with the further ones "untouched", or after a no "the output unchanged".
 abbrev pub written : List ℕ → List ℕ → List ℕ

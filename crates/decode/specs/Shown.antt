@@ -6,14 +6,15 @@ use lib.Dec.{eqb}
 use lib.ListN.{take}
 
 -- Neither `+` (43) nor `%` (37).
-abbrev pub plain : ℕ → Bool
-plain b = cond (eqb b 43) false (cond (eqb b 37) false true)
+abbrev pub plainByte : ℕ → Bool
+plainByte b = cond (eqb b 43) false (cond (eqb b 37) false true)
 
 -- Whether bytes "hold neither `+` nor `%`".
 unfoldable pub allPlain : List ℕ → Bool
 allPlain [] = true
-allPlain (x ∷ xs) = cond (plain x) (allPlain xs) false
+allPlain (x ∷ xs) = cond (plainByte x) (allPlain xs) false
 
--- "a part of the raw bytes where they hold neither `+` nor `%`, else the first bytes of the decoded buffer, as many as decoding answered"
+-- "a part of the raw bytes where they hold neither `+` nor `%`, else the first bytes of the decoded buffer, as many as decoding answered (none
+-- after a no)". n is that number, the second part of `answerOf`.
 abbrev pub shownOf : List ℕ → List ℕ → ℕ → List ℕ
 shownOf raw decoded n = cond (allPlain raw) raw (take n decoded)

@@ -1,4 +1,4 @@
--- The decoding byte by byte: what is left of it at a place, and what one step yields.
+-- The decoding byte by byte: what is left of it from an index on, and what one step yields.
 use Prim.Native.Nat.{ℕ, _<_, _≤_}
 use mathlib.Core.Path.{_≡_}
 use mathlib.Core.List.{List, _∷_, _++_}

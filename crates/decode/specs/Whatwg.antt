@@ -5,7 +5,7 @@ use mathlib.Core.List.{List, [], _∷_, map}
 use lib.Dec.{eqb}
 use Rattle.decode.specs.Hex.{isHex, byteOf}
 use Rattle.decode.specs.Decoding.{plusToSpace}
-use Rattle.decode.specs.Shown.{plain}
+use Rattle.decode.specs.Shown.{plainByte}
 
 -- Percent-decode: a `%` whose next two bytes aren't both hex digits stays, and decoding goes on with the very next byte.
 unfoldable pub percentDecode : List ℕ → List ℕ
@@ -26,10 +26,10 @@ whatwg raw = percentDecode (map plusToSpace raw)
 unfoldable pub noneSwallowed : List ℕ → Bool
 noneSwallowed [] = true
 noneSwallowed (x ∷ []) = true
-noneSwallowed (x ∷ y ∷ []) = cond (eqb x 37) (plain y) (noneSwallowed (y ∷ []))
+noneSwallowed (x ∷ y ∷ []) = cond (eqb x 37) (plainByte y) (noneSwallowed (y ∷ []))
 noneSwallowed (x ∷ y ∷ z ∷ r) =
     cond (eqb x 37)
     (cond (isHex y)
-    (cond (isHex z) (noneSwallowed r) (cond (plain y) (cond (plain z) (noneSwallowed r) false) false))
-    (cond (plain y) (noneSwallowed (z ∷ r)) false))
+    (cond (isHex z) (noneSwallowed r) (cond (plainByte y) (cond (plainByte z) (noneSwallowed r) false) false))
+    (cond (plainByte y) (noneSwallowed (z ∷ r)) false))
     (noneSwallowed (y ∷ z ∷ r))

@@ -1,13 +1,13 @@
 // Percent decoding of a raw segment, as the source's src/de/parse/decode.rs has it: `decode`, the by-value step `next_byte`, and `shown`,
 // which stands in for the source's `Cow`. The definitions are in specs/Decoding; specs/Agreement compares them with WHATWG's.
-// Below it stand only the laws.
+// Below it stands `laws`.
 ghost use mathlib.Core.Path.{_≡_};
 ghost use mathlib.Core.List.{_++_};
 ghost use Prim.Native.Nat.{_<_, _≤_};
 ghost use lib.Dec.{leb};
 ghost use lib.ListN.{length, drop, getD};
 ghost use Rattle.decode.specs.Hex.{digitOf};
-ghost use Rattle.decode.specs.Decoding.{decoded, plusToSpace, answer, written};
+ghost use Rattle.decode.specs.Decoding.{decoded, plusToSpace, answerOf, answer, written};
 ghost use Rattle.decode.specs.Stepping.{Yields};
 ghost use Rattle.decode.specs.Shown.{allPlain, shownOf};
 
@@ -161,7 +161,7 @@ fn write(raw: &[u8], out: &mut [u8]) -> usize
 // Decodes `raw` into `out`: yes and the length, with the further bytes of `out` as they were; or, exactly if the decoded bytes
 // don't fit, no with `out` unchanged.
 pub fn decode(raw: &[u8], out: &mut [u8]) -> Decoded
-    ensures answer { λ r. ⌜ r ≡ answer (now (raw .entry)) (now (out .entry)) ⌝ }
+    ensures answer { λ r. ⌜ answerOf r ≡ answer (now (raw .entry)) (now (out .entry)) ⌝ }
     ensures output { λ _. ⌜ now (out .exit) ≡ written (now (raw .entry)) (now (out .entry)) ⌝ }
 {
     if fits(raw, out.len()) {
@@ -190,7 +190,8 @@ fn is_plain(raw: &[u8]) -> bool
     true
 }
 
-// Text shown to a caller: `raw` itself where it holds neither '+' nor '%', else the first `n` bytes of `decoded`, `n` being what decoding answered.
+// Text shown to a caller: `raw` itself where it holds neither '+' nor '%', else the first `n` bytes of `decoded`. `n` is
+// what decoding answered, 0 after a no.
 pub fn shown<'a>(raw: &'a [u8], decoded: &'a [u8], n: usize) -> &'a [u8]
     ensures { λ r. ⌜ now r ≡ shownOf (now (raw .entry)) (now (decoded .entry)) n ⌝ }
 {

@@ -31,6 +31,7 @@ never false = refl
 too-large : (whole : List ℕ) (v : ℕ) (xs : List ℕ) → maxInt < v → keyFrom whole v xs ≡ key (str (decoded whole))
 too-large whole v xs h = simp (lt-leb (valueFrom v xs) maxInt (omega (arith, value-grows v xs)), never)
 
+-- The loop: digits of value v stand before i, and what is left gives the whole segment's key.
 pub record Reading (s : List ℕ) (i v : ℕ) : Type 0 where
   pub some : length s ≡ 0 → ⊥
   pub within : i ≤ length s

@@ -28,7 +28,7 @@ valueFrom v (b ∷ s) = valueFrom (v * 10 + (b - 48)) s
 abbrev pub maxInt : ℕ
 maxInt = 4294967295
 
--- "Raw digits only, with value at most 4,294,967,295, is Int."
+-- "Raw digits only, with value at most 4,294,967,295, is Int." No setting bears on it so far.
 abbrev pub isInt : Config → List ℕ → Bool
 isInt config s = allDigits s && leb (valueFrom 0 s) maxInt
 

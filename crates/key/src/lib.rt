@@ -1,8 +1,9 @@
 // What key a raw segment is: the work of `collect_key` (the source's src/de/parse.rs) on the segment's bytes.
-// The rule is in specs/Keys. Below it stand the settings (config), whose record the rule takes, and decoding (decode).
-use config::Config;
+// The rule is in specs/Keys and specs/Collected; specs/KeyOrder is the order of keys, which the definitions and the store cite.
+// Below it stand the settings (config), whose record the rule takes, decoding (decode) and laws.
 ghost use mathlib.Core.Path.{_≡_};
 ghost use Rattle.key.specs.Collected.{collected, keyIn};
+use config::Config;
 
 // Document 01's key kind: none, an Int and its value, or a String, which is the segment decoded.
 pub enum KeyKind {
@@ -14,7 +15,7 @@ pub enum KeyKind {
 // The greatest Int.
 const MAX_INT: u64 = 4294967295;
 
-// The kind of key that the segment is. Nothing is decoded here: a String's bytes are those of the segment.
+// The kind of key that the segment is. Nothing is decoded here: of a String only the kind is answered.
 pub fn key_of(config: Config, segment: &[u8]) -> KeyKind
     ensures { λ r. ⌜ keyIn r (now (segment .entry)) ≡ collected config (now (segment .entry)) ⌝ }
 {

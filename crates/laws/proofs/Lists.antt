@@ -1,4 +1,4 @@
--- Lists from a place on, parts of a slice lent and given back, and the loop that clears a slice.
+-- Lists from an index on, parts of a slice lent and given back, and the loop that clears a slice.
 use mathlib.Core.Path.{_≡_, refl, ap, _∙_}
 use mathlib.Core.List.{List, _∷_, _++_, append-nil}
 use Prim.Native.Nat.{ℕ, zero, suc, _+_, _-_, _≤_, _<_}

@@ -14,11 +14,11 @@ use Rattle.config.specs.Limits.{maxLen}
 use Rattle.key.specs.Keys.{isDigit, valueFrom}
 use Rattle.reading.specs.Tests.{ascii}
 use Rattle.reading.specs.Reading.{reading}
-use Rattle.listing.specs.declared.head.Head.{Head}
-use Rattle.listing.specs.declared.head.Head.the-variants.{Bad, Good}
+use Rattle.head.specs.declared.Head.{Head}
+use Rattle.head.specs.declared.Head.the-variants.{Bad, Good}
 use Rattle.listing.specs.Listing.{listing}
-use Rattle.listing.specs.Heads.{begins, leadingDigits, flagIn, depthIn, headOf}
-use Rattle.listing.proofs.Heads.{Inside, head-inside, depth-four}
+use Rattle.head.specs.Heads.{begins, leadingDigits, flagIn, depthIn, headOf}
+use Rattle.head.proofs.Heads.{Inside, head-inside, depth-four}
 use Rattle.list.specs.Reply.{replyTo}
 use Rattle.list.specs.Enough.{Enough}
 

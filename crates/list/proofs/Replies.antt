@@ -17,16 +17,17 @@ use Rattle.reading.proofs.Placed.{placed}
 use Rattle.parse.specs.declared.Parsed.{Parsed}
 use Rattle.parse.specs.Outcomes.{outcomeOf}
 use Rattle.listing.specs.declared.Listed.{Listed}
-use Rattle.listing.specs.declared.head.Head.{Head}
-use Rattle.listing.specs.declared.head.Head.the-variants.{Bad, Good}
+use Rattle.head.specs.declared.Head.{Head}
+use Rattle.head.specs.declared.Head.the-variants.{Bad, Good}
 use Rattle.listing.specs.Listing.{listing}
 use Rattle.listing.specs.Bounded.{boundedListing}
 use Rattle.listing.specs.Output.{answer, filled}
-use Rattle.listing.specs.Heads.{headOf, badHead}
+use Rattle.head.specs.Heads.{headOf}
+use Rattle.listing.specs.Listing.{badHead}
 use Rattle.listing.specs.Room.{Narrow}
 use Rattle.listing.proofs.Complete.{whichever, complete}
 use Rattle.listing.proofs.Room.{room}
-use Rattle.listing.proofs.Heads.{Inside, head-inside}
+use Rattle.head.proofs.Heads.{Inside, head-inside}
 use Rattle.list.specs.Reply.{replyTo, reply}
 use Rattle.list.specs.Lending.{Lent, counted, Written}
 

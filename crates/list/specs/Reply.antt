@@ -3,9 +3,10 @@ use Prim.Native.Nat.{ℕ}
 use mathlib.Core.List.{List}
 use lib.ListN.{drop}
 use Rattle.reading.specs.Reading.{reading}
-use Rattle.listing.specs.declared.head.Head.{Head}
-use Rattle.listing.specs.declared.head.Head.the-variants.{Bad, Good}
-use Rattle.listing.specs.Heads.{headOf, badHead}
+use Rattle.head.specs.declared.Head.{Head}
+use Rattle.head.specs.declared.Head.the-variants.{Bad, Good}
+use Rattle.head.specs.Heads.{headOf}
+use Rattle.listing.specs.Listing.{badHead}
 use Rattle.listing.specs.Listing.{listing}
 
 -- "A bad head prints only `answer=head`." After a good one the rest is the query string (document 01's "ticket"), "to end of file".

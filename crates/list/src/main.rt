@@ -6,11 +6,10 @@ ghost use Rattle.listing.specs.Listing.{listing};
 ghost use Rattle.list.specs.Reply.{reply};
 ghost use Rattle.list.specs.Lending.{Lent, counted, Written};
 use config::Config;
+use head::Head;
 use libc::STDIN_FILENO;
 use libc::STDOUT_FILENO;
 use listing::Listed;
-use listing::head;
-use listing::head::Head;
 use parse::Parsed;
 
 // The number of bytes to print. What the program writes is never cut: callers show that.
@@ -56,7 +55,7 @@ fn respond(input: &[u8], words: &mut [u32], text: &mut [u8], out: &mut [u8]) -> 
     ensures { λ r. ⌜ Written (reply (now (input .entry)) (now (words .entry)) (now (text .entry))) (now (out .entry)) (now (out .exit)) r ⌝ }
 {
     match head::parse_head(input) {
-        Head::Bad => count(head::list_bad_head(out)),
+        Head::Bad => count(listing::list_bad_head(out)),
         Head::Good { depth, form, start } => {
             respond_to(&input[start..], Config { depth, form }, words, text, out)
         }

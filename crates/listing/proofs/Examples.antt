@@ -8,13 +8,8 @@ use Rattle.reading.specs.Reading.{reading}
 use Rattle.listing.specs.Numbers.{decimalIn, decimal, hex}
 use Rattle.listing.specs.Lines.{ownLines, treeLines}
 use Rattle.listing.specs.Listing.{answerLines, listing}
-use Rattle.listing.specs.Heads.{begins, leadingDigits, flagIn, depthIn, headOf}
-use Rattle.listing.specs.Examples.{ExamplesPass, HeadsPass}
+use Rattle.listing.specs.Examples.{ExamplesPass}
 
 pub examples-pass : ExamplesPass
 unfolding reading decoded digitOf allDigits valueFrom decimalIn decimal hex ownLines treeLines answerLines listing flatten flatMap
 examples-pass = refl
-
-pub heads-pass : HeadsPass
-unfolding begins leadingDigits valueFrom flagIn depthIn headOf
-heads-pass = refl

@@ -9,4 +9,3 @@ pub mod Filled
 pub mod Examples
 pub mod Complete
 pub mod Room
-pub mod Heads

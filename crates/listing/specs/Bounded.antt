@@ -20,6 +20,6 @@ boundedListing o =
     answerLines (o .number) (o .place) (o .records) (o .bytes) ++ cond (eqb (o .number) 0) values []
 
 -- The outcome of these four numbers, words and text.
-abbrev pub outcomeOf : ℕ → ℕ → ℕ → ℕ → List ℕ → List ℕ → Outcome
-outcomeOf number place records bytes words text =
+abbrev pub outcomeFrom : ℕ → ℕ → ℕ → ℕ → List ℕ → List ℕ → Outcome
+outcomeFrom number place records bytes words text =
     record { number = number; place = place; records = records; bytes = bytes; words = words; text = text }

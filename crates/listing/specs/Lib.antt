@@ -6,5 +6,4 @@ pub mod Complete
 pub mod Room
 pub mod Output
 pub mod Walking
-pub mod Heads
 pub mod Examples

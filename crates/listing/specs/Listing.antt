@@ -4,6 +4,7 @@ use mathlib.Core.Bool.{cond}
 use mathlib.Core.Option.{none}
 use mathlib.Core.List.{List, [], _++_, flatten}
 use lib.Dec.{eqb}
+use Rattle.reading.specs.Tests.{ascii}
 use Rattle.reading.specs.Reading.{Outcome}
 use Rattle.reading.specs.Buffers.{treeIn}
 use Rattle.listing.specs.Numbers.{decimal}
@@ -23,3 +24,7 @@ unfoldable pub listing : Outcome → List ℕ
 listing o =
     let values = flatten (valueLines (o .words) (o .text)) in
     answerLines (o .number) (o .place) (o .records) (o .bytes) ++ cond (eqb (o .number) 0) values []
+
+-- "A bad head prints only `answer=head`."
+abbrev pub badHead : List ℕ
+badHead = ascii "answer=head\n"

@@ -12,9 +12,13 @@ use Rattle.listing.specs.declared.Listed.the-variants.{Whole, Cut}
 abbrev pub filled : List ℕ → List ℕ → List ℕ
 filled bytes out = take (length out) bytes ++ drop (length bytes) out
 
--- What it answers: all of them and their number, or that they were cut.
+-- So many bytes in an output of a size: all of them, or that they were cut.
+abbrev pub answerAt : ℕ → ℕ → Listed
+answerAt end size = cond (leb end size) (Whole end) Cut
+
+-- What `list` answers of these bytes.
 abbrev pub answer : List ℕ → List ℕ → Listed
-answer bytes out = cond (leb (length bytes) (length out)) (Whole (length bytes)) Cut
+answer bytes out = answerAt (length bytes) (length out)
 
 -- The output and the place of the next byte. Where a byte was cut the place is the length and one more.
 pub record Page : Type 0 where

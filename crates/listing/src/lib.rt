@@ -1,7 +1,6 @@
-// The listing of a reading's outcome, as document 01's listing program prints it, and the head of that program's input: a library over slices.
+// The listing of a reading's outcome, as document 01's listing program prints it: a library over slices.
 // The listing is specs/Listing; that `list` writes it of every reading is specs/Complete.
 // Below it stand the words of a record (records), the definitions of a reading (reading) and what these stand on.
-pub mod head; // the head of the program's input
 mod lines; // a value's own lines
 mod numbers; // decimal and hex
 mod output; // bytes out
@@ -9,14 +8,24 @@ mod record; // the words and the text of a record
 mod values; // the walk over the values
 
 ghost use mathlib.Core.Path.{_≡_};
-ghost use Rattle.listing.specs.Listing.{answerLines};
-ghost use Rattle.listing.specs.Bounded.{boundedListing, outcomeOf};
-ghost use Rattle.listing.specs.Output.{filled, answer, page, Puts};
+ghost use Rattle.listing.specs.Listing.{answerLines, badHead};
+ghost use Rattle.listing.specs.Bounded.{boundedListing, outcomeFrom};
+ghost use Rattle.listing.specs.Output.{answerAt, filled, answer, page, Puts};
 
 // The answer of `list`: the number of bytes written, or that the output holds only the first of them.
 pub enum Listed {
     Whole(usize),
     Cut,
+}
+
+// The answer once bytes are written up to a place, which is past the output's length where some were cut.
+fn answer(end: usize, size: usize) -> Listed
+    ensures { λ r. ⌜ r ≡ answerAt end size ⌝ }
+{
+    if end <= size {
+        return Listed::Whole(end);
+    }
+    Listed::Cut
 }
 
 // Writes the lines of an answer's four numbers.
@@ -40,13 +49,20 @@ pub fn list(
     text: &[u8],
     out: &mut [u8],
 ) -> Listed
-    ensures answer { λ r. ⌜ r ≡ answer (boundedListing (outcomeOf number place records bytes (now (words .entry)) (now (text .entry)))) (now (out .entry)) ⌝ }
-    ensures output { λ _. ⌜ now (out .exit) ≡ filled (boundedListing (outcomeOf number place records bytes (now (words .entry)) (now (text .entry)))) (now (out .entry)) ⌝ }
+    ensures answer { λ r. ⌜ r ≡ answer (boundedListing (outcomeFrom number place records bytes (now (words .entry)) (now (text .entry)))) (now (out .entry)) ⌝ }
+    ensures output { λ _. ⌜ now (out .exit) ≡ filled
+        (boundedListing (outcomeFrom number place records bytes (now (words .entry)) (now (text .entry)))) (now (out .entry)) ⌝ }
 {
     let at = write_answer(number, place, records, bytes, out);
     let end = values::write_values(number, words, text, out, at);
-    if end <= out.len() {
-        return Listed::Whole(end);
-    }
-    Listed::Cut
+    answer(end, out.len())
+}
+
+// Writes what the program prints for a bad head, as `list` writes a listing.
+pub fn list_bad_head(out: &mut [u8]) -> Listed
+    ensures answer { λ r. ⌜ r ≡ answer badHead (now (out .entry)) ⌝ }
+    ensures output { λ _. ⌜ now (out .exit) ≡ filled badHead (now (out .entry)) ⌝ }
+{
+    let end = output::write_bytes(b"answer=head\n", out, 0);
+    answer(end, out.len())
 }

@@ -73,7 +73,8 @@ fn write_key_line(
     out: &mut [u8],
     at: usize,
 ) -> usize
-    ensures { λ r. ⌜ Puts (line "key=" (keyItem (keyShown keyed (now (words .entry)) (now (text .entry)) n))) (page (now (out .entry)) at) (page (now (out .exit)) r) ⌝ }
+    ensures { λ r. ⌜ Puts (line "key=" (keyItem (keyShown keyed (now (words .entry)) (now (text .entry)) n))) (page (now (out .entry)) at)
+        (page (now (out .exit)) r) ⌝ }
 {
     let item = output::write_bytes(b"key=", out, at);
     let end = write_key(words, text, n, keyed, out, item);
@@ -82,7 +83,8 @@ fn write_key_line(
 
 // Writes the line of a value's kind.
 fn write_kind_line(words: &[u32], n: u32, out: &mut [u8], at: usize) -> usize
-    ensures { λ r. ⌜ Puts (line "kind=" (ascii (kindName (byKind (word (now (words .entry)) n 0) [] noEntries noElements)))) (page (now (out .entry)) at) (page (now (out .exit)) r) ⌝ }
+    ensures { λ r. ⌜ Puts (line "kind=" (ascii (kindName (byKind (word (now (words .entry)) n 0) [] noEntries noElements))))
+        (page (now (out .entry)) at) (page (now (out .exit)) r) ⌝ }
 {
     let item = output::write_bytes(b"kind=", out, at);
     let end = write_kind(record::get_word(words, n, store::KIND), out, item);
@@ -91,7 +93,8 @@ fn write_kind_line(words: &[u32], n: u32, out: &mut [u8], at: usize) -> usize
 
 // Writes the line of a value's text.
 fn write_text_line(words: &[u32], text: &[u8], n: u32, out: &mut [u8], at: usize) -> usize
-    ensures { λ r. ⌜ Puts (line "text=" (textItem (childless (now (words .entry)) (now (text .entry)) n))) (page (now (out .entry)) at) (page (now (out .exit)) r) ⌝ }
+    ensures { λ r. ⌜ Puts (line "text=" (textItem (childless (now (words .entry)) (now (text .entry)) n))) (page (now (out .entry)) at)
+        (page (now (out .exit)) r) ⌝ }
 {
     let item = output::write_bytes(b"text=", out, at);
     let end = write_text(words, text, n, out, item);

@@ -82,7 +82,8 @@ pub(crate) fn write_values(
     out: &mut [u8],
     at: usize,
 ) -> usize
-    ensures { λ r. ⌜ Puts (cond (eqb number 0) (flatten (boundedValues (now (words .entry)) (now (text .entry)))) []) (page (now (out .entry)) at) (page (now (out .exit)) r) ⌝ }
+    ensures { λ r. ⌜ Puts (cond (eqb number 0) (flatten (boundedValues (now (words .entry)) (now (text .entry)))) []) (page (now (out .entry)) at)
+        (page (now (out .exit)) r) ⌝ }
 {
     if number != 0 {
         return at;

@@ -33,7 +33,7 @@ use Rattle.pairs.specs.declared.turning.Nested.{Nested}
 use Rattle.pairs.specs.declared.turning.Level.{Level}
 use Rattle.pairs.specs.declared.turning.Level.the-variants.{Deeper, Turned}
 use Rattle.pairs.specs.Progress.{still, stepBy, Reads, Ready}
-use Rattle.pairs.specs.Turns.{Inside, opened, keyBelow, keyAt, inKey, Further, Turns, Levels}
+use Rattle.pairs.specs.Turns.{Inside, opened, inKeyBelow, inKeyAt, inKey, Further, Turns, Levels}
 use Rattle.pairs.proofs.Moves.{Move, move-on, turns-on, due-as, took-move, next-move, below-scan, at-scan, ends-step}
 
 -- A scan for the rest of a key, and the taking that ended it, of a known symbol.
@@ -140,14 +140,14 @@ equals-inside {config = config} {s = s} {taken = taken} g e f =
 
 -- A key below the depth, or at it.
 pub key-below : {config : Config} {s W X : List ℕ} {i : ℕ} (nested : Nested) → nested .level < config .depth
-    → Move config s W X (nested .here) i (still (inKey config s nested)) W X (nested .here) i (still (keyBelow s nested))
-key-below {config} {s} nested l = due-as (still (keyBelow s nested))
-    (λ path. ap (λ (b : Bool). skip then cond b (keyBelow s nested path) (keyAt s (nested .cursor) path)) (lt-ltb (nested .level) (config .depth) l))
+    → Move config s W X (nested .here) i (still (inKey config s nested)) W X (nested .here) i (still (inKeyBelow s nested))
+key-below {config} {s} nested l = due-as (still (inKeyBelow s nested))
+    (λ path. ap (λ (b : Bool). skip then cond b (inKeyBelow s nested path) (inKeyAt s (nested .cursor) path)) (lt-ltb (nested .level) (config .depth) l))
 
 pub key-at : {config : Config} {s W X : List ℕ} {i : ℕ} (nested : Nested) → config .depth ≤ nested .level
-    → Move config s W X (nested .here) i (still (inKey config s nested)) W X (nested .here) i (still (keyAt s (nested .cursor)))
-key-at {config} {s} nested l = due-as (still (keyAt s (nested .cursor)))
-    (λ path. ap (λ (b : Bool). skip then cond b (keyBelow s nested path) (keyAt s (nested .cursor) path)) (le-ltb (nested .level) (config .depth) l))
+    → Move config s W X (nested .here) i (still (inKey config s nested)) W X (nested .here) i (still (inKeyAt s (nested .cursor)))
+key-at {config} {s} nested l = due-as (still (inKeyAt s (nested .cursor)))
+    (λ path. ap (λ (b : Bool). skip then cond b (inKeyBelow s nested path) (inKeyAt s (nested .cursor) path)) (le-ltb (nested .level) (config .depth) l))
 
 -- A bracket's first byte: any but `]` and the end opens a key.
 opens-key : (config : Config) (path : List keys.Key) (level : ℕ) (raw raw′ : List ℕ) (y : Symbol) → sameSymbol y End ≡ false → sameSymbol y Closing ≡ false

@@ -16,8 +16,9 @@ use Rattle.reading.specs.Refusals.{code}
 use Rattle.reading.specs.Taking.{Symbol, ampersand, equals, opening, closing, other}
 use Rattle.reading.specs.Scanning.{Target, Mode, rootKey, value, keyBelowDepth, keyAtDepth, Step, _then_, step, finish}
 use Rattle.reading.specs.Running.{Answer, perform}
-use Rattle.reading.proofs.Results.{Gives, gives, Whatever, gives-map}
-use Rattle.reading.proofs.Space.{Covered, step-covered, finish-covered}
+use Rattle.reading.specs.Covering.{Gives, gives, Whatever, Covered}
+use Rattle.reading.proofs.Results.{gives-map}
+use Rattle.reading.proofs.Space.{step-covered, finish-covered}
 use Rattle.cursor.specs.declared.taking.Symbol as code
 use Rattle.cursor.specs.declared.taking.Cursor.{Cursor}
 use Rattle.cursor.specs.declared.taking.Taken.{Taken}

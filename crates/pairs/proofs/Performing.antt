@@ -13,8 +13,7 @@ use Rattle.reading.specs.Refusals.{Refusal, code}
 use Rattle.reading.specs.Scanning.{root, under, last, Command, enter, add, Mode, rootKey, bracket, Step, _then_}
 use Rattle.reading.specs.Adding.{appendValue, atPath}
 use Rattle.reading.specs.Running.{Answer, perform, resume}
-use Rattle.reading.proofs.Results.{Gives, gives, Whatever}
-use Rattle.reading.proofs.Space.{Covered}
+use Rattle.reading.specs.Covering.{Gives, gives, Whatever, Covered}
 use Rattle.cursor.specs.declared.taking.Cursor.{Cursor}
 use Rattle.cursor.specs.declared.collecting.Key.{Key}
 use Rattle.cursor.specs.declared.collecting.Leaf.{Leaf}
@@ -22,7 +21,7 @@ use Rattle.cursor.specs.Segments.{segment}
 use Rattle.cursor.specs.Collected.{Bounds, decodedKey, decodedLeaf, KeyBounds, LeafBounds}
 use Rattle.cursor.specs.From.{from}
 use Rattle.cursor.proofs.Segments.{length-segment}
-use Rattle.records.specs.Keys.{soughtKey}
+use Rattle.records.specs.Keys.{meantKey}
 use Rattle.tree.specs.declared.Here.{Here}
 use Rattle.tree.specs.declared.Performed.{Performed}
 use Rattle.tree.specs.declared.Performed.the-variants.{Made as MadeHere, Refused as RefusedThere}
@@ -141,8 +140,8 @@ module _ (input : List ℕ) where
   leaf-bounds Leaf.NoValue e b = rw e (omega arith, omega arith)
   leaf-bounds (Leaf.String start end) e b = rw e b
 
-  pub key-decoded : (key : Key) {s : KeySegment} → s ≡ keySegment key → soughtKey (s .key) (segment input (s .start) (s .end)) ≡ decodedKey input key
-  unfolding soughtKey
+  pub key-decoded : (key : Key) {s : KeySegment} → s ≡ keySegment key → meantKey (s .key) (segment input (s .start) (s .end)) ≡ decodedKey input key
+  unfolding meantKey
   key-decoded (Key.Int n) e = rw e
   key-decoded (Key.String start end) e = rw e
 

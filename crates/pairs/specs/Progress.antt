@@ -12,8 +12,7 @@ use Rattle.reading.specs.Charging.{Lent}
 use Rattle.reading.specs.Taking.{Symbol}
 use Rattle.reading.specs.Scanning.{Mode, rootKey, skip, Step, _then_, step, finish}
 use Rattle.reading.specs.Running.{Answer, perform}
-use Rattle.reading.proofs.Results.{Gives, Whatever}
-use Rattle.reading.proofs.Space.{Covered}
+use Rattle.reading.specs.Covering.{Gives, Whatever, Covered}
 use Rattle.cursor.specs.From.{after}
 use Rattle.tree.specs.declared.Here.{Here}
 use Rattle.tree.specs.Stored.{Stands, Standing}
@@ -28,7 +27,7 @@ stepBy config mode (some symbol) raw = step config mode symbol raw
 stepBy config mode none raw = finish config mode then rootKey []
 
 -- At a place, a tree stands in the words and the text, a step is due, and what is read from there on is this answer. The bytes taken cover what
--- is used and, once the step is made, what its mode may still need (reading's proofs/Space): so no count outgrows a u32, however much is lent.
+-- is used and, once the step is made, what its mode may still need (reading's specs/Covering): so no count outgrows a u32, however much is lent.
 pub record Reads (config : Config) (input words text : List ℕ) (here : Here) (place : ℕ) (due : List Key → Step) (answer : Answer) : Type 0 where
   pub lent : Lent
   pub path : List Key

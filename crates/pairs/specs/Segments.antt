@@ -2,14 +2,14 @@
 -- at for a String only.
 use Rattle.cursor.specs.declared.collecting.Key.{Key}
 use Rattle.cursor.specs.declared.collecting.Leaf.{Leaf}
-use Rattle.records.specs.declared.keys.Sought.{Sought}
+use Rattle.records.specs.declared.keys.RawKey.{RawKey}
 use Rattle.tree.specs.declared.adding.LeafKind.{LeafKind}
 use Rattle.pairs.specs.declared.commands.KeySegment.{KeySegment}
 use Rattle.pairs.specs.declared.commands.LeafSegment.{LeafSegment}
 
 abbrev pub keySegment : Key → KeySegment
-keySegment (Key.Int n) = record { key = Sought.Int n; start = 0; end = 0 }
-keySegment (Key.String start end) = record { key = Sought.String; start = start; end = end }
+keySegment (Key.Int n) = record { key = RawKey.Int n; start = 0; end = 0 }
+keySegment (Key.String start end) = record { key = RawKey.String; start = start; end = end }
 
 abbrev pub leafSegment : Leaf → LeafSegment
 leafSegment Leaf.Null = record { kind = LeafKind.Null; start = 0; end = 0 }

@@ -58,14 +58,14 @@ abbrev pub opened : List ℕ → Nested → List Key → Mode
 opened input nested path = bracket path (nested .level) (segment input (nested .cursor .end) (nested .cursor .place))
 
 -- In a key, with the cursor's segment so far, which runs on to the place: below the depth, at the depth, and either.
-abbrev pub keyBelow : List ℕ → Nested → List Key → Mode
-keyBelow input nested path = keyBelowDepth path (nested .level) (segment input (nested .cursor .start) (nested .cursor .place))
+abbrev pub inKeyBelow : List ℕ → Nested → List Key → Mode
+inKeyBelow input nested path = keyBelowDepth path (nested .level) (segment input (nested .cursor .start) (nested .cursor .place))
 
-abbrev pub keyAt : List ℕ → Cursor → List Key → Mode
-keyAt input cursor path = keyAtDepth path (segment input (cursor .start) (cursor .place))
+abbrev pub inKeyAt : List ℕ → Cursor → List Key → Mode
+inKeyAt input cursor path = keyAtDepth path (segment input (cursor .start) (cursor .place))
 
 abbrev pub inKey : Config → List ℕ → Nested → List Key → Mode
-inKey config input nested path = cond (ltb (nested .level) (config .depth)) (keyBelow input nested path) (keyAt input (nested .cursor) path)
+inKey config input nested path = cond (ltb (nested .level) (config .depth)) (inKeyBelow input nested path) (inKeyAt input (nested .cursor) path)
 
 -- The key's first byte is taken.
 abbrev pub InKey : List ℕ → Cursor → Type 0

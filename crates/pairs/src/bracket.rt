@@ -8,7 +8,7 @@ ghost use Rattle.reading.specs.Scanning.{bracket, afterKey, afterBrackets, need
 ghost use Rattle.cursor.specs.Segments.{segment};
 ghost use Rattle.cursor.specs.Collected.{decodedKey, KeyBounds};
 ghost use Rattle.pairs.specs.Progress.{still, Ready};
-ghost use Rattle.pairs.specs.Turns.{opened, Inside, keyBelow, keyAt, inKey, InKey, Turns, Levels};
+ghost use Rattle.pairs.specs.Turns.{opened, Inside, inKeyBelow, inKeyAt, inKey, InKey, Turns, Levels};
 use crate::commands;
 use crate::refusals;
 use crate::turning::Level;
@@ -42,7 +42,8 @@ fn parse_sequence_value(
     place: usize,
 ) -> Turn
     requires { ⌜ Ready config (now input) (now words) (now text) here place (still (λ path. afterBrackets path)) × (place ≤ length (now input)) ⌝ }
-    ensures { λ r. ⌜ Turns config (now (input .entry)) (now (words .entry)) (now (text .entry)) (now (words .exit)) (now (text .exit)) here place (still (λ path. afterBrackets path)) place r ⌝ }
+    ensures { λ r. ⌜ Turns config (now (input .entry)) (now (words .entry)) (now (text .entry)) (now (words .exit)) (now (text .exit)) here place
+        (still (λ path. afterBrackets path)) place r ⌝ }
 {
     let taken = take(input, config, clear_acc(place));
     let cursor = taken.cursor;
@@ -67,8 +68,10 @@ fn parse_brackets(
     here: Here,
     place: usize,
 ) -> Turn
-    requires { ⌜ Ready config (now input) (now words) (now text) here place (λ path. needSequence path then afterBrackets path) × (place ≤ length (now input)) ⌝ }
-    ensures { λ r. ⌜ Turns config (now (input .entry)) (now (words .entry)) (now (text .entry)) (now (words .exit)) (now (text .exit)) here place (λ path. needSequence path then afterBrackets path) place r ⌝ }
+    requires { ⌜ Ready config (now input) (now words) (now text) here place (λ path. needSequence path then afterBrackets path)
+        × (place ≤ length (now input)) ⌝ }
+    ensures { λ r. ⌜ Turns config (now (input .entry)) (now (words .entry)) (now (text .entry)) (now (words .exit)) (now (text .exit)) here place
+        (λ path. needSequence path then afterBrackets path) place r ⌝ }
 {
     match needing::expect_sequence(words, here) {
         Performed::Made(there) => parse_sequence_value(input, config, words, text, there, place),
@@ -85,8 +88,11 @@ fn after_key(
     nested: Nested,
     key: Key,
 ) -> Level
-    requires { ⌜ Ready config (now input) (now words) (now text) (nested .here) (nested .cursor .place) (still (λ path. afterKey path (nested .level) (decodedKey (now input) key))) × KeyBounds (now input) key × (nested .cursor .place ≤ length (now input)) × (nested .level + 1 < 2 ^ 64) ⌝ }
-    ensures { λ r. ⌜ Levels config (now (input .entry)) (now (words .entry)) (now (text .entry)) (now (words .exit)) (now (text .exit)) (nested .here) (nested .cursor .place) (still (λ path. afterKey path (nested .level) (decodedKey (now (input .entry)) key))) (nested .cursor .place) r ⌝ }
+    requires { ⌜ Ready config (now input) (now words) (now text) (nested .here) (nested .cursor .place)
+        (still (λ path. afterKey path (nested .level) (decodedKey (now input) key))) × KeyBounds (now input) key
+        × (nested .cursor .place ≤ length (now input)) × (nested .level + 1 < 2 ^ 64) ⌝ }
+    ensures { λ r. ⌜ Levels config (now (input .entry)) (now (words .entry)) (now (text .entry)) (now (words .exit)) (now (text .exit)) (nested .here)
+        (nested .cursor .place) (still (λ path. afterKey path (nested .level) (decodedKey (now (input .entry)) key))) (nested .cursor .place) r ⌝ }
 {
     let here = nested.here;
     let closed = nested.cursor;
@@ -122,8 +128,10 @@ fn key_below_depth(
     text: &mut [u8],
     nested: Nested,
 ) -> Level
-    requires { ⌜ Ready config (now input) (now words) (now text) (nested .here) (nested .cursor .place) (still (keyBelow (now input) nested)) × InKey (now input) (nested .cursor) × (nested .level + 1 < 2 ^ 64) ⌝ }
-    ensures { λ r. ⌜ Levels config (now (input .entry)) (now (words .entry)) (now (text .entry)) (now (words .exit)) (now (text .exit)) (nested .here) (nested .cursor .place) (still (keyBelow (now (input .entry)) nested)) (nested .cursor .place) r ⌝ }
+    requires { ⌜ Ready config (now input) (now words) (now text) (nested .here) (nested .cursor .place) (still (inKeyBelow (now input) nested))
+        × InKey (now input) (nested .cursor) × (nested .level + 1 < 2 ^ 64) ⌝ }
+    ensures { λ r. ⌜ Levels config (now (input .entry)) (now (words .entry)) (now (text .entry)) (now (words .exit)) (now (text .exit)) (nested .here)
+        (nested .cursor .place) (still (inKeyBelow (now (input .entry)) nested)) (nested .cursor .place) r ⌝ }
 {
     let start = nested.cursor;
     let taken = take_until(input, config, Until::Closing, start);
@@ -134,9 +142,9 @@ fn key_below_depth(
     }
     let here = nested.here;
     let closed = Nested {
-        here: here,
+        here,
         level: nested.level,
-        cursor: cursor,
+        cursor,
     };
     after_key(
         input,
@@ -157,8 +165,9 @@ fn key_at_depth(
     here: Here,
     start: Cursor,
 ) -> Turn
-    requires { ⌜ Ready config (now input) (now words) (now text) here (start .place) (still (keyAt (now input) start)) × InKey (now input) start ⌝ }
-    ensures { λ r. ⌜ Turns config (now (input .entry)) (now (words .entry)) (now (text .entry)) (now (words .exit)) (now (text .exit)) here (start .place) (still (keyAt (now (input .entry)) start)) (start .place) r ⌝ }
+    requires { ⌜ Ready config (now input) (now words) (now text) here (start .place) (still (inKeyAt (now input) start)) × InKey (now input) start ⌝ }
+    ensures { λ r. ⌜ Turns config (now (input .entry)) (now (words .entry)) (now (text .entry)) (now (words .exit)) (now (text .exit)) here
+        (start .place) (still (inKeyAt (now (input .entry)) start)) (start .place) r ⌝ }
 {
     let taken = take_until(input, config, Until::KeyAtDepth, start);
     let cursor = taken.cursor;
@@ -182,8 +191,10 @@ fn parse_key(
     text: &mut [u8],
     nested: Nested,
 ) -> Level
-    requires { ⌜ Ready config (now input) (now words) (now text) (nested .here) (nested .cursor .place) (still (inKey config (now input) nested)) × InKey (now input) (nested .cursor) ⌝ }
-    ensures { λ r. ⌜ Levels config (now (input .entry)) (now (words .entry)) (now (text .entry)) (now (words .exit)) (now (text .exit)) (nested .here) (nested .cursor .place) (still (inKey config (now (input .entry)) nested)) (nested .cursor .place) r ⌝ }
+    requires { ⌜ Ready config (now input) (now words) (now text) (nested .here) (nested .cursor .place) (still (inKey config (now input) nested))
+        × InKey (now input) (nested .cursor) ⌝ }
+    ensures { λ r. ⌜ Levels config (now (input .entry)) (now (words .entry)) (now (text .entry)) (now (words .exit)) (now (text .exit)) (nested .here)
+        (nested .cursor .place) (still (inKey config (now (input .entry)) nested)) (nested .cursor .place) r ⌝ }
 {
     if nested.level < config.depth {
         return key_below_depth(input, config, words, text, nested);
@@ -201,8 +212,10 @@ fn open_key(
     text: &mut [u8],
     nested: Nested,
 ) -> Level
-    requires { ⌜ Ready config (now input) (now words) (now text) (nested .here) (nested .cursor .place) (λ path. needMap path then inKey config (now input) nested path) × InKey (now input) (nested .cursor) ⌝ }
-    ensures { λ r. ⌜ Levels config (now (input .entry)) (now (words .entry)) (now (text .entry)) (now (words .exit)) (now (text .exit)) (nested .here) (nested .cursor .place) (λ path. needMap path then inKey config (now (input .entry)) nested path) (nested .cursor .place) r ⌝ }
+    requires { ⌜ Ready config (now input) (now words) (now text) (nested .here) (nested .cursor .place)
+        (λ path. needMap path then inKey config (now input) nested path) × InKey (now input) (nested .cursor) ⌝ }
+    ensures { λ r. ⌜ Levels config (now (input .entry)) (now (words .entry)) (now (text .entry)) (now (words .exit)) (now (text .exit)) (nested .here)
+        (nested .cursor .place) (λ path. needMap path then inKey config (now (input .entry)) nested path) (nested .cursor .place) r ⌝ }
 {
     let here = nested.here;
     let cursor = nested.cursor;
@@ -211,7 +224,7 @@ fn open_key(
             let mapped = Nested {
                 here: there,
                 level: nested.level,
-                cursor: cursor,
+                cursor,
             };
             parse_key(input, config, words, text, mapped)
         }
@@ -237,8 +250,10 @@ fn parse_level(
     text: &mut [u8],
     nested: Nested,
 ) -> Level
-    requires { ⌜ Ready config (now input) (now words) (now text) (nested .here) (nested .cursor .place) (still (opened (now input) nested)) × Inside (now input) nested ⌝ }
-    ensures { λ r. ⌜ Levels config (now (input .entry)) (now (words .entry)) (now (text .entry)) (now (words .exit)) (now (text .exit)) (nested .here) (nested .cursor .place) (still (opened (now (input .entry)) nested)) (nested .cursor .place + 1) r ⌝ }
+    requires { ⌜ Ready config (now input) (now words) (now text) (nested .here) (nested .cursor .place) (still (opened (now input) nested))
+        × Inside (now input) nested ⌝ }
+    ensures { λ r. ⌜ Levels config (now (input .entry)) (now (words .entry)) (now (text .entry)) (now (words .exit)) (now (text .exit)) (nested .here)
+        (nested .cursor .place) (still (opened (now (input .entry)) nested)) (nested .cursor .place + 1) r ⌝ }
 {
     let here = nested.here;
     let opening = nested.cursor;
@@ -257,9 +272,9 @@ fn parse_level(
         return Level::Turned(parse_brackets(input, config, words, text, here, cursor.place));
     }
     let key = Nested {
-        here: here,
+        here,
         level: nested.level,
-        cursor: cursor,
+        cursor,
     };
     open_key(input, config, words, text, key)
 }
@@ -273,13 +288,16 @@ pub(crate) fn parse_nested_key(
     here: Here,
     cursor: Cursor,
 ) -> Turn
-    requires { ⌜ Ready config (now input) (now words) (now text) here (cursor .place) (still (λ path. bracket path 0 (segment (now input) (cursor .end) (cursor .place)))) × (cursor .end ≤ cursor .place) × (cursor .place ≤ length (now input)) ⌝ }
-    ensures { λ r. ⌜ Turns config (now (input .entry)) (now (words .entry)) (now (text .entry)) (now (words .exit)) (now (text .exit)) here (cursor .place) (still (λ path. bracket path 0 (segment (now (input .entry)) (cursor .end) (cursor .place)))) (cursor .place) r ⌝ }
+    requires { ⌜ Ready config (now input) (now words) (now text) here (cursor .place)
+        (still (λ path. bracket path 0 (segment (now input) (cursor .end) (cursor .place)))) × (cursor .end ≤ cursor .place)
+        × (cursor .place ≤ length (now input)) ⌝ }
+    ensures { λ r. ⌜ Turns config (now (input .entry)) (now (words .entry)) (now (text .entry)) (now (words .exit)) (now (text .exit)) here
+        (cursor .place) (still (λ path. bracket path 0 (segment (now (input .entry)) (cursor .end) (cursor .place)))) (cursor .place) r ⌝ }
 {
     let mut nested = Nested {
-        here: here,
+        here,
         level: 0,
-        cursor: cursor,
+        cursor,
     };
     loop {
         match parse_level(input, config, words, text, nested) {

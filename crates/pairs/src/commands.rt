@@ -9,7 +9,7 @@ ghost use Rattle.pairs.specs.Segments.{keySegment, leafSegment};
 ghost use Rattle.pairs.specs.Progress.{Able};
 use cursor::Key;
 use cursor::Leaf;
-use records::keys::Sought;
+use records::keys::RawKey;
 use tree::Here;
 use tree::Performed;
 use tree::adding;
@@ -18,7 +18,7 @@ use tree::entering;
 
 // A key, and the bounds of its raw segment.
 struct KeySegment {
-    key: Sought,
+    key: RawKey,
     start: usize,
     end: usize,
 }
@@ -36,14 +36,14 @@ fn key_segment(key: Key) -> KeySegment
 {
     match key {
         Key::Int(n) => KeySegment {
-            key: Sought::Int(n),
+            key: RawKey::Int(n),
             start: 0,
             end: 0,
         },
         Key::String(start, end) => KeySegment {
-            key: Sought::String,
-            start: start,
-            end: end,
+            key: RawKey::String,
+            start,
+            end,
         },
     }
 }
@@ -65,8 +65,8 @@ fn leaf_segment(leaf: Leaf) -> LeafSegment
         },
         Leaf::String(start, end) => LeafSegment {
             kind: LeafKind::String,
-            start: start,
-            end: end,
+            start,
+            end,
         },
     }
 }
@@ -80,7 +80,9 @@ pub(crate) fn enter(
     key: Key,
 ) -> Performed
     requires { ⌜ Able (now input) (now words) (now text) here × KeyBounds (now input) key ⌝ }
-    ensures { λ r. ⌜ Does (now (words .entry)) (now (text .entry)) (now (words .exit)) (now (text .exit)) here (λ lent path. perform lent (enter path (decodedKey (now (input .entry)) key))) (λ path. path ++ (decodedKey (now (input .entry)) key ∷ [])) r ⌝ }
+    ensures { λ r. ⌜ Does (now (words .entry)) (now (text .entry)) (now (words .exit)) (now (text .exit)) here
+        (λ lent path. perform lent (enter path (decodedKey (now (input .entry)) key)))
+        (λ path. path ++ (decodedKey (now (input .entry)) key ∷ [])) r ⌝ }
 {
     let segment = key_segment(key);
     let sought = segment.key;
@@ -99,7 +101,9 @@ pub(crate) fn insert_unique(
     leaf: Leaf,
 ) -> Performed
     requires { ⌜ Able (now input) (now words) (now text) here × KeyBounds (now input) key × LeafBounds (now input) leaf ⌝ }
-    ensures { λ r. ⌜ Does (now (words .entry)) (now (text .entry)) (now (words .exit)) (now (text .exit)) here (λ lent path. perform lent (add (under path (decodedKey (now (input .entry)) key)) (decodedLeaf (now (input .entry)) leaf))) (λ path. path ++ (decodedKey (now (input .entry)) key ∷ [])) r ⌝ }
+    ensures { λ r. ⌜ Does (now (words .entry)) (now (text .entry)) (now (words .exit)) (now (text .exit)) here
+        (λ lent path. perform lent (add (under path (decodedKey (now (input .entry)) key)) (decodedLeaf (now (input .entry)) leaf)))
+        (λ path. path ++ (decodedKey (now (input .entry)) key ∷ [])) r ⌝ }
 {
     let segment = key_segment(key);
     let sought = segment.key;
@@ -129,7 +133,8 @@ pub(crate) fn push(
     leaf: Leaf,
 ) -> Performed
     requires { ⌜ Able (now input) (now words) (now text) here × LeafBounds (now input) leaf ⌝ }
-    ensures { λ r. ⌜ Does (now (words .entry)) (now (text .entry)) (now (words .exit)) (now (text .exit)) here (λ lent path. perform lent (add (last path) (decodedLeaf (now (input .entry)) leaf))) (λ path. path) r ⌝ }
+    ensures { λ r. ⌜ Does (now (words .entry)) (now (text .entry)) (now (words .exit)) (now (text .exit)) here
+        (λ lent path. perform lent (add (last path) (decodedLeaf (now (input .entry)) leaf))) (λ path. path) r ⌝ }
 {
     let value = leaf_segment(leaf);
     let kind = value.kind;
@@ -147,7 +152,8 @@ pub(crate) fn append_value(
     leaf: Leaf,
 ) -> Performed
     requires { ⌜ Able (now input) (now words) (now text) here × (here .node ≡ 0) × LeafBounds (now input) leaf ⌝ }
-    ensures { λ r. ⌜ Does (now (words .entry)) (now (text .entry)) (now (words .exit)) (now (text .exit)) here (λ lent path. perform lent (add root (decodedLeaf (now (input .entry)) leaf))) (λ path. []) r ⌝ }
+    ensures { λ r. ⌜ Does (now (words .entry)) (now (text .entry)) (now (words .exit)) (now (text .exit)) here
+        (λ lent path. perform lent (add root (decodedLeaf (now (input .entry)) leaf))) (λ path. []) r ⌝ }
 {
     let value = leaf_segment(leaf);
     let kind = value.kind;

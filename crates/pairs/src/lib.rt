@@ -5,7 +5,7 @@ mod bracket; // inside brackets: `parse_nested_key`
 mod commands; // the tree's commands on segments of the input
 mod refusals; // the numbers of the refusals
 mod root; // the pairs of the input
-mod turning; // what is left of a pair once it is read
+mod turning; // how a pair, or a level of brackets, ends
 mod value; // a value after a `=`
 
 pub use root::parse_pairs;

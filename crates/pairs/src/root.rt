@@ -59,8 +59,13 @@ fn enter_root(
     key: Key,
     cursor: Cursor,
 ) -> Turn
-    requires { ⌜ Ready config (now input) (now words) (now text) here (cursor .place) (λ path. enter path (decodedKey (now input) key) then bracket (path ++ (decodedKey (now input) key ∷ [])) 0 (segment (now input) (cursor .end) (cursor .place))) × KeyBounds (now input) key × (cursor .end ≤ cursor .place) × (cursor .place ≤ length (now input)) ⌝ }
-    ensures { λ r. ⌜ Turns config (now (input .entry)) (now (words .entry)) (now (text .entry)) (now (words .exit)) (now (text .exit)) here (cursor .place) (λ path. enter path (decodedKey (now (input .entry)) key) then bracket (path ++ (decodedKey (now (input .entry)) key ∷ [])) 0 (segment (now (input .entry)) (cursor .end) (cursor .place))) (cursor .place) r ⌝ }
+    requires { ⌜ Ready config (now input) (now words) (now text) here (cursor .place)
+        (λ path. enter path (decodedKey (now input) key) then bracket (path ++ (decodedKey (now input) key ∷ [])) 0
+        (segment (now input) (cursor .end) (cursor .place)))
+        × KeyBounds (now input) key × (cursor .end ≤ cursor .place) × (cursor .place ≤ length (now input)) ⌝ }
+    ensures { λ r. ⌜ Turns config (now (input .entry)) (now (words .entry)) (now (text .entry)) (now (words .exit)) (now (text .exit)) here
+        (cursor .place) (λ path. enter path (decodedKey (now (input .entry)) key) then bracket (path ++ (decodedKey (now (input .entry)) key ∷ [])) 0
+        (segment (now (input .entry)) (cursor .end) (cursor .place))) (cursor .place) r ⌝ }
 {
     match commands::enter(input, words, text, here, key) {
         Performed::Made(there) => parse_nested_key(input, config, words, text, there, cursor),
@@ -77,8 +82,10 @@ fn keyless(
     here: Here,
     taken: Taken,
 ) -> Turn
-    requires { ⌜ Ready config (now input) (now words) (now text) here (taken .cursor .place) (rootStep config (now input) [] taken) × (here .node ≡ 0) × Stopped config (now input) taken ⌝ }
-    ensures { λ r. ⌜ Turns config (now (input .entry)) (now (words .entry)) (now (text .entry)) (now (words .exit)) (now (text .exit)) here (taken .cursor .place) (rootStep config (now (input .entry)) [] taken) (taken .cursor .place) r ⌝ }
+    requires { ⌜ Ready config (now input) (now words) (now text) here (taken .cursor .place) (rootStep config (now input) [] taken) × (here .node ≡ 0)
+        × Stopped config (now input) taken ⌝ }
+    ensures { λ r. ⌜ Turns config (now (input .entry)) (now (words .entry)) (now (text .entry)) (now (words .exit)) (now (text .exit)) here
+        (taken .cursor .place) (rootStep config (now (input .entry)) [] taken) (taken .cursor .place) r ⌝ }
 {
     let cursor = taken.cursor;
     let place = cursor.place;
@@ -102,8 +109,13 @@ fn keyed(
     key: Key,
     taken: Taken,
 ) -> Turn
-    requires { ⌜ Ready config (now input) (now words) (now text) here (taken .cursor .place) (rootStep config (now input) (segment (now input) (taken .cursor .start) (taken .cursor .end)) taken) × (here .node ≡ 0) × Stopped config (now input) taken × KeyIs config (now input) (taken .cursor .start) (taken .cursor .end) key × (0 < length (segment (now input) (taken .cursor .start) (taken .cursor .end))) ⌝ }
-    ensures { λ r. ⌜ Turns config (now (input .entry)) (now (words .entry)) (now (text .entry)) (now (words .exit)) (now (text .exit)) here (taken .cursor .place) (rootStep config (now (input .entry)) (segment (now (input .entry)) (taken .cursor .start) (taken .cursor .end)) taken) (taken .cursor .place) r ⌝ }
+    requires { ⌜ Ready config (now input) (now words) (now text) here (taken .cursor .place)
+        (rootStep config (now input) (segment (now input) (taken .cursor .start) (taken .cursor .end)) taken) × (here .node ≡ 0)
+        × Stopped config (now input) taken × KeyIs config (now input) (taken .cursor .start) (taken .cursor .end) key
+        × (0 < length (segment (now input) (taken .cursor .start) (taken .cursor .end))) ⌝ }
+    ensures { λ r. ⌜ Turns config (now (input .entry)) (now (words .entry)) (now (text .entry)) (now (words .exit)) (now (text .exit)) here
+        (taken .cursor .place) (rootStep config (now (input .entry)) (segment (now (input .entry)) (taken .cursor .start) (taken .cursor .end)) taken)
+        (taken .cursor .place) r ⌝ }
 {
     let cursor = taken.cursor;
     let place = cursor.place;
@@ -130,7 +142,8 @@ fn parse_pair(
     place: usize,
 ) -> Turn
     requires { ⌜ Ready config (now input) (now words) (now text) here place (still (λ path. rootKey [])) × (place ≤ length (now input)) ⌝ }
-    ensures { λ r. ⌜ Turns config (now (input .entry)) (now (words .entry)) (now (text .entry)) (now (words .exit)) (now (text .exit)) here place (still (λ path. rootKey [])) (place + 1) r ⌝ }
+    ensures { λ r. ⌜ Turns config (now (input .entry)) (now (words .entry)) (now (text .entry)) (now (words .exit)) (now (text .exit)) here place
+        (still (λ path. rootKey [])) (place + 1) r ⌝ }
 {
     let taken = take_until(
         input,
@@ -149,7 +162,9 @@ fn parse_pair(
 // The pairs of the input, into a tree that is an Uninitialized root.
 pub fn parse_pairs(input: &[u8], config: Config, words: &mut [u32], text: &mut [u8]) -> Turn
     requires { ⌜ Ready config (now input) (now words) (now text) (record { records = 1; bytes = 0; node = 0 }) 0 (still (λ path. rootKey [])) ⌝ }
-    ensures { λ r. ⌜ ((answer : Answer) → Reads config (now (input .entry)) (now (words .entry)) (now (text .entry)) (record { records = 1; bytes = 0; node = 0 }) 0 (still (λ path. rootKey [])) answer → Ends answer (now (words .exit)) (now (text .exit)) r) ⌝ }
+    ensures { λ r. ⌜ ((answer : Answer) → Reads config (now (input .entry)) (now (words .entry)) (now (text .entry))
+        (record { records = 1; bytes = 0; node = 0 }) 0 (still (λ path. rootKey [])) answer
+        → Ends answer (now (words .exit)) (now (text .exit)) r) ⌝ }
 {
     let mut place = 0;
     let mut here = Here {

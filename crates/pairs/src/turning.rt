@@ -1,4 +1,4 @@
-// What is left of a pair, and of a level of brackets, once it is read.
+// How a pair, and a level of brackets, ends.
 ghost use mathlib.Core.Path.{_≡_};
 ghost use Rattle.pairs.specs.Turns.{turnOf, levelOf};
 use cursor::Cursor;
@@ -24,7 +24,7 @@ pub(crate) enum Level {
     Turned(Turn),
 }
 
-// The pair that a command ends at a place.
+// How a pair ends at a place, by the answer of its last command.
 pub(crate) fn turn_of(performed: Performed, place: usize) -> Turn
     ensures { λ r. ⌜ r ≡ turnOf performed place ⌝ }
 {
@@ -34,15 +34,15 @@ pub(crate) fn turn_of(performed: Performed, place: usize) -> Turn
     }
 }
 
-// The level of brackets that opens once a key is entered.
+// How a level of brackets ends at the next `[`, by the answer of the command that enters its key.
 pub(crate) fn level_of(performed: Performed, level: usize, cursor: Cursor) -> Level
     ensures { λ r. ⌜ r ≡ levelOf performed level cursor ⌝ }
 {
     match performed {
         Performed::Made(there) => Level::Deeper(Nested {
             here: there,
-            level: level,
-            cursor: cursor,
+            level,
+            cursor,
         }),
         Performed::Refused(number) => Level::Turned(Turn::Refused(number, cursor.place)),
     }

@@ -14,7 +14,7 @@ use Rattle.reading.specs.Charging.{Lent}
 use Rattle.reading.specs.Scanning.{rootKey}
 use Rattle.reading.specs.Running.{Answer, accepted}
 use Rattle.reading.specs.Reading.{lentBy, parsed, outcome, reading}
-use Rattle.reading.proofs.Results.{gives}
+use Rattle.reading.specs.Covering.{gives}
 use Rattle.cursor.specs.From.{from}
 use Rattle.cursor.proofs.From.{from-start}
 use Rattle.records.specs.Words.{noValueKind}

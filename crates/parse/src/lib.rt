@@ -1,4 +1,5 @@
-// The reader: the source's `parse` (src/de/parse.rs) of an input into lent records and text, equal to `reading` (specs/Outcomes).
+// The reader: the source's `parse` and its `Parser` (src/de/parse.rs), of an input into lent records and text, equal to `reading`
+// (specs/Outcomes). What follows for any calls stands in specs/Growth and specs/Space.
 // Below it stand the reading of the pairs (pairs), the records (records) and the definitions (reading).
 mod parser; // the parser that holds the input
 mod refusals; // the numbers of the refusals
@@ -30,8 +31,11 @@ pub enum Parsed {
 
 // Reads an input that isn't empty into cleared slices. A refusal leaves them cleared.
 fn parse_some(input: &[u8], config: Config, words: &mut [u32], text: &mut [u8]) -> Parsed
-    requires { ⌜ (0 < length (now input)) × (length (now input) ≤ maxLen) × (recordWidth ≤ length (now words)) × (now words ≡ replicate (length (now words)) 0) × (now text ≡ replicate (length (now text)) 0) ⌝ }
-    ensures { λ r. ⌜ outcomeOf r (now (words .exit)) (now (text .exit)) ≡ outcome (length (now (words .entry))) (length (now (text .entry))) (parsed config (now (input .entry)) (lentBy (now (words .entry)) (now (text .entry)))) ⌝ }
+    requires { ⌜ (0 < length (now input)) × (length (now input) ≤ maxLen) × (recordWidth ≤ length (now words))
+        × (now words ≡ replicate (length (now words)) 0) × (now text ≡ replicate (length (now text)) 0) ⌝ }
+    ensures { λ r. ⌜ outcomeOf r (now (words .exit)) (now (text .exit))
+        ≡ outcome (length (now (words .entry))) (length (now (text .entry)))
+        (parsed config (now (input .entry)) (lentBy (now (words .entry)) (now (text .entry)))) ⌝ }
 {
     match parse_pairs(input, config, words, text) {
         Turn::Going(_, here) => Parsed::Accepted(here.records, here.bytes),
@@ -60,7 +64,9 @@ fn parse_empty(words: &mut [u32]) -> Parsed
 // Clears the slices, and reads the input into them.
 fn parse_cleared(input: &[u8], config: Config, words: &mut [u32], text: &mut [u8]) -> Parsed
     requires { ⌜ (length (now input) ≤ maxLen) × (recordWidth ≤ length (now words)) ⌝ }
-    ensures { λ r. ⌜ outcomeOf r (now (words .exit)) (now (text .exit)) ≡ outcome (length (now (words .entry))) (length (now (text .entry))) (parsed config (now (input .entry)) (lentBy (now (words .entry)) (now (text .entry)))) ⌝ }
+    ensures { λ r. ⌜ outcomeOf r (now (words .exit)) (now (text .exit))
+        ≡ outcome (length (now (words .entry))) (length (now (text .entry)))
+        (parsed config (now (input .entry)) (lentBy (now (words .entry)) (now (text .entry)))) ⌝ }
 {
     clear_words(words);
     clear_text(text);

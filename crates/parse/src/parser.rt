@@ -1,12 +1,12 @@
 // The source's `Parser` (src/de/parse.rs), which holds the input and an index. It is thin: its functions make it or take it apart, and the
 // reading is done by functions over plain slices.
-use crate::Parsed;
-use crate::parse_input;
-use config::Config;
 ghost use mathlib.Core.Path.{_≡_};
 ghost use lib.ListN.{drop};
 ghost use Rattle.reading.specs.Reading.{reading};
 ghost use Rattle.parse.specs.Outcomes.{outcomeOf};
+use crate::Parsed;
+use crate::parse_input;
+use config::Config;
 
 // The input, and the index from which it is to be read.
 pub struct Parser<'qs> {
@@ -33,7 +33,8 @@ fn parse_at(
     words: &mut [u32],
     text: &mut [u8],
 ) -> Parsed
-    ensures { λ r. ⌜ outcomeOf r (now (words .exit)) (now (text .exit)) ≡ reading config (drop index (now (input .entry))) (now (words .entry)) (now (text .entry)) ⌝ }
+    ensures { λ r. ⌜ outcomeOf r (now (words .exit)) (now (text .exit))
+        ≡ reading config (drop index (now (input .entry))) (now (words .entry)) (now (text .entry)) ⌝ }
 {
     parse_input(rest(input, index), config, words, text)
 }
@@ -48,7 +49,8 @@ impl<'qs> Parser<'qs> {
 
     // Reads the parser's input from its index on into the lent words and text.
     pub fn parse(self, config: Config, words: &mut [u32], text: &mut [u8]) -> Parsed
-        ensures { λ r. ⌜ outcomeOf r (now (words .exit)) (now (text .exit)) ≡ reading config (drop (self .entry .index) (now (self .entry .input))) (now (words .entry)) (now (text .entry)) ⌝ }
+        ensures { λ r. ⌜ outcomeOf r (now (words .exit)) (now (text .exit))
+            ≡ reading config (drop (self .entry .index) (now (self .entry .input))) (now (words .entry)) (now (text .entry)) ⌝ }
     {
         parse_at(self.input, self.index, config, words, text)
     }

@@ -1,10 +1,6 @@
-// The functions exported to C and Rust, each a thin cover of a proved one; `rt staticlib qs` writes them to one archive.
-// A slice is passed as a pointer and the count of its elements. Below it stand the reader (parse), field reads (de), decode and utf8.
-use config::Config;
-use de::DuplicateKeyBehavior;
-use de::FieldRead;
-use decode::Decoded;
-use parse::Parsed;
+// The functions exported to C and Rust, each a thin cover of a proved one; `rt staticlib qs` writes them to one archive. A slice is passed as a
+// pointer and the count of its elements. The definitions are those of the crates below, in C's numbers (specs/Numbers, specs/Readings).
+// Below it stand the reader (parse), field reads (de), decoding (decode), the test for UTF-8 (utf8) and the settings (config).
 ghost use mathlib.Core.Path.{_≡_};
 ghost use Rattle.decode.specs.Decoding.{answer, written};
 ghost use Rattle.utf8.specs.Test.{utf8};
@@ -12,6 +8,11 @@ ghost use Rattle.reading.specs.Reading.{reading};
 ghost use Rattle.de.specs.Reads.{textRead, listRead};
 ghost use Rattle.qs.specs.Numbers.{lengthOrNo, oneOrZero};
 ghost use Rattle.qs.specs.Readings.{settings, behavior, resultIn};
+use config::Config;
+use de::DuplicateKeyBehavior;
+use de::FieldRead;
+use decode::Decoded;
+use parse::Parsed;
 
 // What a reading answers: document 01's number, place, records used and text bytes used.
 #[repr(C)]
@@ -74,7 +75,8 @@ pub extern "C" fn qs_parse(
     records: &mut [u32],
     text: &mut [u8],
 ) -> Reading
-    ensures { λ r. ⌜ resultIn r (now (records .exit)) (now (text .exit)) ≡ reading (settings depth form) (now (input .entry)) (now (records .entry)) (now (text .entry)) ⌝ }
+    ensures { λ r. ⌜ resultIn r (now (records .exit)) (now (text .exit))
+        ≡ reading (settings depth form) (now (input .entry)) (now (records .entry)) (now (text .entry)) ⌝ }
 {
     match parse::parse(input, settings(depth, form), records, text) {
         Parsed::Accepted(used, bytes) => Reading {
@@ -104,7 +106,8 @@ pub extern "C" fn qs_text(
     records: &mut [u32],
     text: &mut [u8],
 ) -> FieldRead
-    ensures { λ r. ⌜ record { answer = r; words = now (records .exit); text = now (text .exit) } ≡ textRead (settings depth form) (behavior duplicates) (now (input .entry)) (now (name .entry)) (now (records .entry)) (now (text .entry)) ⌝ }
+    ensures { λ r. ⌜ record { answer = r; words = now (records .exit); text = now (text .exit) }
+        ≡ textRead (settings depth form) (behavior duplicates) (now (input .entry)) (now (name .entry)) (now (records .entry)) (now (text .entry)) ⌝ }
 {
     let config = settings(depth, form);
     let duplicates = behavior(duplicates);
@@ -124,7 +127,9 @@ pub extern "C" fn qs_list(
     text: &mut [u8],
     list: &mut [u32],
 ) -> FieldRead
-    ensures { λ r. ⌜ record { read = record { answer = r; words = now (records .exit); text = now (text .exit) }; list = now (list .exit) } ≡ listRead (settings depth form) (behavior duplicates) (now (input .entry)) (now (name .entry)) (now (records .entry)) (now (text .entry)) (now (list .entry)) ⌝ }
+    ensures { λ r. ⌜ record { read = record { answer = r; words = now (records .exit); text = now (text .exit) }; list = now (list .exit) }
+        ≡ listRead (settings depth form) (behavior duplicates) (now (input .entry)) (now (name .entry)) (now (records .entry)) (now (text .entry))
+        (now (list .entry)) ⌝ }
 {
     let config = settings(depth, form);
     let duplicates = behavior(duplicates);

@@ -13,7 +13,8 @@ use Rattle.reading.specs.Adding.{expectMap, expectSequence, keyText, lea
 use Rattle.reading.specs.Scanning.{root, under, last, Command, skip, refuse, enter, needMap, needSequence, add}
 use Rattle.reading.specs.Running.{perform}
 use Rattle.reading.specs.Shape.{SingleValue}
-use Rattle.reading.proofs.Results.{gives, refuses, Each, gives-over, gives-weaken, Within, each-charge}
+use Rattle.reading.specs.Covering.{gives, refuses}
+use Rattle.reading.proofs.Results.{Each, gives-over, gives-weaken, Within, each-charge}
 use Rattle.reading.proofs.Rules.{Fits, OfValue, OfChildren, Obeys, Passes, Adding, Entering, at-path, append-obeys, insert-obeys, push-obeys, enter-obeys, map-obeys, sequence-obeys}
 
 abbrev pub Change : Type 0 → Type 1

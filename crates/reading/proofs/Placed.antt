@@ -16,11 +16,12 @@ use Rattle.reading.specs.Scanning.{rootKey, step, finish}
 use Rattle.reading.specs.Running.{perform, Answer}
 use Rattle.reading.specs.Reading.{Outcome, lentBy, parsed, outcome, reading}
 use Rattle.reading.specs.Placed.{InPlace, Placed}
-use Rattle.reading.proofs.Results.{Gives, gives, refuses, by-test}
+use Rattle.reading.specs.Covering.{Gives, gives, refuses}
+use Rattle.reading.proofs.Results.{by-test}
 use Rattle.reading.proofs.Runs.{Ends, accepts, refusesAt, run-ends}
 use Rattle.reading.proofs.Takings.{endOf, end-later, tokens-end}
 
--- Whatever is made, if both facts hold anyway.
+-- A fact of what is made and one of a refusal, where both hold anyway.
 anyway : {A B : Type 0} (m : Made Value) → A → B → Gives (λ v n t. A) (λ x. B) m
 anyway (made v n t) a b = gives a
 anyway (refused x) a b = refuses b

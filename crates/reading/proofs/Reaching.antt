@@ -18,7 +18,8 @@ use Rattle.reading.specs.Taking.{Symbol, ampersand, equals, opening, clo
 use Rattle.reading.specs.Scanning.{Target, root, under, last, Command, skip, needMap, add, Mode, rootKey, value, bracket, keyBelowDepth, keyAtDepth, afterKey, afterBrackets, _then_, finish, step}
 use Rattle.reading.specs.Running.{perform, run}
 use Rattle.reading.specs.Shape.{Decided, DecidedAll, DecidedBelow}
-use Rattle.reading.proofs.Results.{Gives, gives, refuses, gives-over, gives-weaken, gives-charge}
+use Rattle.reading.specs.Covering.{Gives, gives, refuses}
+use Rattle.reading.proofs.Results.{gives-over, gives-weaken, gives-charge}
 use Rattle.reading.proofs.Rules.{Unfit, onMap, onSingle, onSequence, onString, onNull, Adding, append-obeys, insert-obeys, push-obeys}
 use Rattle.reading.proofs.Labels.{compare-label}
 use Rattle.reading.proofs.Runs.{Ends, run-ends}

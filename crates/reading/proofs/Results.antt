@@ -9,17 +9,10 @@ use lib.Dec.{ltb}
 use lib.ListN.{length, length-append}
 use Rattle.reading.specs.Refusals.{Refusal, tooFewRecords, tooLittleText}
 use Rattle.key.specs.KeyOrder.{choose}
-use Rattle.reading.specs.Charging.{Lent, Made, made, refused, over, charge}
+use Rattle.reading.specs.Charging.{Lent, Made, over, charge}
+use Rattle.reading.specs.Covering.{Gives, gives, refuses, Whatever}
 
--- P of what is made and of the counts with it, R of a refusal.
-pub data Gives {A : Type 0} (P : A → ℕ → List ℕ → Type 0) (R : Refusal → Type 0) : Made A → Type 0 where
-  gives : {a : A} {n : ℕ} {t : List ℕ} → P a n t → Gives P R (made a n t)
-  refuses : {x : Refusal} → R x → Gives P R (refused x)
-
--- Nothing is said of refusals.
-abbrev pub Whatever : Refusal → Type 0
-Whatever x = Unit
-
+-- What is made, with its counts, has P.
 abbrev pub Each : {A : Type 0} → (A → ℕ → List ℕ → Type 0) → Made A → Type 0
 Each P m = Gives P Whatever m
 

@@ -9,7 +9,8 @@ use Rattle.reading.specs.Charging.{Lent, Made}
 use Rattle.reading.specs.Taking.{Symbol, Token, token}
 use Rattle.reading.specs.Scanning.{Command, Mode, step, finish}
 use Rattle.reading.specs.Running.{perform, Answer, accepted, refusedAt, resume, run}
-use Rattle.reading.proofs.Results.{Gives, gives, refuses, Each}
+use Rattle.reading.specs.Covering.{Gives, gives, refuses}
+use Rattle.reading.proofs.Results.{Each}
 
 -- P of what is accepted, R of a refusal and its place.
 pub data Ends (P : Value → ℕ → List ℕ → Type 0) (R : Refusal → ℕ → Type 0) : Answer → Type 0 where

@@ -22,7 +22,8 @@ use Rattle.reading.specs.Running.{perform, Answer, run}
 use Rattle.reading.specs.Reading.{lentBy, parsed, outcome}
 use Rattle.reading.specs.Shape.{SingleValue, isNull, isNoValue, isString}
 use Rattle.reading.specs.Space.{Space}
-use Rattle.reading.proofs.Results.{Gives, gives, refuses, gives-over, gives-map, gives-charge}
+use Rattle.reading.specs.Covering.{Gives, gives, refuses, weight, targetText, needs, pending, Covered}
+use Rattle.reading.proofs.Results.{gives-over, gives-map, gives-charge}
 use Rattle.reading.proofs.Rules.{Unfit, onMap, onSingle, onSequence, onString, onNull, Adding, Entering, at-path, append-obeys, insert-obeys, push-obeys, enter-obeys, map-obeys, sequence-obeys}
 use Rattle.reading.proofs.Runs.{Ends, accepts, refusesAt, run-ends}
 use Rattle.reading.proofs.Takings.{endOf, end-later, tokens-end}
@@ -73,15 +74,6 @@ module _ (lent : Lent) (x : ℕ) where
       gives-charge lent k y a n t (λ f p q. absurd (omega arith)) (λ f p q. absurd (omega arith))
       (λ w. record { records = omega arith; bytes = omega (arith, length-append t y) })
 
--- Adding a leaf takes at most one record at an undecided value, else two.
-abbrev weight : Value → ℕ
-weight uninitialized = 0
-weight null = 1
-weight noValue = 1
-weight (string o y) = 1
-weight (map cs) = 1
-weight (sequence cs) = 1
-
 weight-le : (v : Value) → weight v ≤ 1
 weight-le uninitialized = omega arith
 weight-le null = omega arith
@@ -95,6 +87,7 @@ single-weight isNull = refl
 single-weight isNoValue = refl
 single-weight isString = refl
 
+-- The same at a key of a map that has these children.
 abbrev cost : Forest → ℕ
 cost none = 1
 cost (child m l v cs) = 2
@@ -107,6 +100,7 @@ cost-le : (cs : Forest) → cost cs ≤ 2
 cost-le none = omega arith
 cost-le (child m l v cs) = omega arith
 
+-- A new key and the leaf have at most x bytes of text.
 abbrev Fits-text : Leaf → ℕ → Key → Type 0
 Fits-text leaf x k = length (keyText k) + length (leafText leaf) ≤ x
 
@@ -150,12 +144,7 @@ entering lent x c =
       newSequence = λ n t. gives {a = sequence none} {n = n} {t = t} (record { records = omega arith; bytes = omega arith });
     }
 
--- The commands. The text that a target's key takes:
-abbrev targetText : Target → ℕ
-targetText root = 0
-targetText (under path key) = length (keyText key)
-targetText (last path) = 0
-
+-- The commands.
 module _ (lent : Lent) where
   add-pays : (target : Target) (leaf : Leaf) (v : Value) (n : ℕ) (t : List ℕ)
       → Pays lent (targetText target + length (leafText leaf)) (weight v + 1) n t (perform lent (add target leaf) v n t)
@@ -181,31 +170,6 @@ module _ (lent : Lent) where
   sequence-pays path =
       let a = entering lent 0 0 in
       at-path (a .passes) (λ v n t. refuses (λ p q. tt)) (λ k cs n t. refuses (λ p q. tt)) path (λ w i u. over sequence (expectSequence w i u)) (sequence-obeys a)
-
--- What a mode may still need: records, and text that is taken and not yet laid down.
-abbrev pub needs : Mode → Value → ℕ
-needs (rootKey []) v = weight v
-needs (rootKey (b ∷ s)) v = weight v + 1
-needs (value target s) v = weight v + 1
-needs (bracket path level opened) v = 1
-needs (keyBelowDepth path level s) v = 2
-needs (keyAtDepth path s) v = 2
-needs (afterKey path level key) v = 2
-needs (afterBrackets path) v = 2
-
-abbrev pub pending : Mode → ℕ
-pending (rootKey s) = length s
-pending (value target s) = targetText target + length s
-pending (bracket path level opened) = length opened
-pending (keyBelowDepth path level s) = length s
-pending (keyAtDepth path s) = length s
-pending (afterKey path level key) = length (keyText key)
-pending (afterBrackets path) = 0
-
--- The bytes taken cover it.
-pub record Covered (p : ℕ) (m : Mode) (v : Value) (n : ℕ) (t : List ℕ) : Type 0 where
-  pub records : n + needs m v ≤ 1 + p
-  pub bytes : length t + pending m ≤ p
 
 module _ (config : Config) (lent : Lent) where
   -- From a place p on: a refusal isn't for space where p + 1 records and p text bytes are lent.

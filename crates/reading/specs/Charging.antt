@@ -25,7 +25,7 @@ abbrev pub over : {A B : Type 0} → (A → B) → Made A → Made B
 over f (made a used text) = made (f a) used text
 over f (refused x) = refused x
 
--- What f makes of it.
+-- What f goes on to make of it; a refusal stays.
 abbrev pub bind : {A B : Type 0} → Made A → (A → ℕ → List ℕ → Made B) → Made B
 bind (made a used text) f = f a used text
 bind (refused x) f = refused x

@@ -6,6 +6,7 @@ pub mod Adding
 pub mod Taking
 pub mod Scanning
 pub mod Running
+pub mod Covering
 pub mod Records
 pub mod Reading
 pub mod Trees

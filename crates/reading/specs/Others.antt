@@ -1,4 +1,5 @@
--- Document 01, 'Tickets to try': those without a star, and further ones for the points where a reader of document 01 goes wrong.
+-- Document 01, 'Tickets to try': those without a star, each under what document 01 says of it; then further ones, for the points where a
+-- reader of document 01 goes wrong.
 use mathlib.Core.List.{List, [], _∷_}
 use Rattle.config.specs.Defaults.{defaults}
 use Rattle.reading.specs.Tests.{holds, refuses, untouched, row, Test, test, usual, ampersands, atDepth, formOn, formAtDepth, AllPass}

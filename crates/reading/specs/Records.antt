@@ -58,7 +58,7 @@ abbrev pub recordWords : Label → Value → Forest → List ℕ
 recordWords label value later =
     kind value ∷ keyWords label ++ (textOffset value ∷ textLength value ∷ firstChild value ∷ first later ∷ [])
 
--- The record of number i among some children and all below them, else the default d.
+-- The record of number i below a value, and among some children and all below them; else the default d.
 abbrev mutual
   pub recordBelow : ℕ → Value → List ℕ → List ℕ
   recordBelow i uninitialized d = d

@@ -10,16 +10,16 @@ use lib.Dec.{leb}
 use Rattle.decode.specs.Decoding.{decoded}
 use Rattle.records.specs.declared.adding.Appended.{Appended}
 use Rattle.records.specs.declared.adding.Appended.the-variants.{Used, TooFew}
-use Rattle.records.specs.declared.keys.Sought.the-variants.{String}
-use Rattle.records.specs.declared.siblings.Place.{Place}
-use Rattle.records.specs.declared.siblings.Place.the-variants.{Found, Between}
+use Rattle.records.specs.declared.keys.RawKey.the-variants.{String}
+use Rattle.records.specs.declared.siblings.Position.{Position}
+use Rattle.records.specs.declared.siblings.Position.the-variants.{Found, Between}
 use Rattle.records.specs.declared.store.ValueWords.{ValueWords}
 use Rattle.records.specs.declared.store.Record.{Record}
 use Rattle.records.specs.Words.{kindWord, uninitializedKind, mapKind, sequenceKind}
 use Rattle.records.specs.Store.{recordCount, word}
 use Rattle.records.specs.Records.{valueAt, withValue, inserted}
-use Rattle.records.specs.Keys.{soughtKey}
-use Rattle.records.specs.Siblings.{children, lastOf, standing, place, WellFormed}
+use Rattle.records.specs.Keys.{meantKey}
+use Rattle.records.specs.Siblings.{children, lastOf, standing, position, WellFormed}
 use Rattle.records.specs.Adding.{Leaves, ifRoom, unkeyed, emptyKeyed, childless, sequenceOfTwo, pushed, paired, appendedHere, childAdded, appended}
 use Rattle.records.proofs.Chains.{found-within, between-within}
 
@@ -78,20 +78,20 @@ module _ (ws text : List ℕ) (used n : ℕ) (v : ValueWords) (l : n < recordCou
     at-other z h (suc fuel) i = rw (ne-eqb (word ws n kindWord) mapKind (λ q. z (e ∙ q))) h
 
   -- At a Map, by the answer of `find` at the empty key.
-  module _ {y : Place} (f : y ≡ place ws text (soughtKey String []) n) (k : WellFormed ws text) where
+  module _ {y : Position} (f : y ≡ position ws text (meantKey String []) n) (k : WellFormed ws text) where
     pub found-inside : (m : ℕ) → y ≡ Found m → (n < m) × (m < recordCount ws)
-    found-inside m q = found-within (standing ws text (soughtKey String [])) n (recordCount ws) 0 m (children ws n) (sym f ∙ q) (k .links .rising n l)
+    found-inside m q = found-within (standing ws text (meantKey String [])) n (recordCount ws) 0 m (children ws n) (sym f ∙ q) (k .links .rising n l)
 
     pub prev-inside : (p x : ℕ) → y ≡ Between p x → p < recordCount ws
-    prev-inside p x q = between-within (standing ws text (soughtKey String [])) n (recordCount ws) 0 p x (children ws n) (sym f ∙ q) (omega arith) (k .links .rising n l)
+    prev-inside p x q = between-within (standing ws text (meantKey String [])) n (recordCount ws) 0 p x (children ws n) (sym f ∙ q) (omega arith) (k .links .rising n l)
 
     module _ {kind : ℕ} (e : kind ≡ word ws n kindWord) (map : kind ≡ mapKind) {ws' : List ℕ} {r : Appended} where
       pub at-child : (m : ℕ) → y ≡ Found m → Right m ws' r → Right n ws' r
-      unfolding appended soughtKey decoded
+      unfolding appended meantKey decoded
       at-child m q h zero i = absurd (omega arith)
       at-child m q h (suc fuel) i = rw (eq-eqb (word ws n kindWord) mapKind (sym e ∙ map), sym f ∙ q) (h fuel (omega (arith, found-inside m q)))
 
       pub at-new-child : (p x : ℕ) → y ≡ Between p x → Leaves (childAdded ws used n p x v) ws' r → Right n ws' r
-      unfolding appended soughtKey decoded
+      unfolding appended meantKey decoded
       at-new-child p x q h zero i = absurd (omega arith)
       at-new-child p x q h (suc fuel) i = rw (eq-eqb (word ws n kindWord) mapKind (sym e ∙ map), sym f ∙ q) h

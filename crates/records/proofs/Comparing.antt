@@ -15,11 +15,11 @@ use Rattle.decode.specs.Stepping.{rest, Yields}
 use Rattle.decode.proofs.Steps.{rest-zero, rest-done}
 use Rattle.key.specs.KeyOrder.{compareBytes, compareKeys, andThen}
 use Rattle.key.proofs.KeyOrders.{compare-less, compare-greater, compare-equal}
-use Rattle.records.specs.declared.keys.Sought.the-variants.{Int, String}
+use Rattle.records.specs.declared.keys.RawKey.the-variants.{Int, String}
 use Rattle.records.specs.Words.{keyKindWord, keyWord, keyLengthWord, intKeyKind}
 use Rattle.records.specs.Store.{word}
 use Rattle.records.specs.Records.{keyWordsAt}
-use Rattle.records.specs.Keys.{storedKey, keyAt, InText, soughtKey}
+use Rattle.records.specs.Keys.{storedKey, keyAt, InText, meantKey}
 
 -- The loop of `compare_bytes`: what is left to be compared gives the whole answer.
 pub record Comparing (bytes raw : List ℕ) (i j k : ℕ) : Type 0 where
@@ -62,16 +62,16 @@ module _ (ws text : List ℕ) (n : ℕ) (raw : List ℕ) {kind : ℕ} (e : kind 
   is-string : kind ≢ intKeyKind → eqb (word ws n keyKindWord) intKeyKind ≡ false
   is-string h = ne-eqb (word ws n keyKindWord) intKeyKind (λ q. h (e ∙ q))
 
-  pub int-int : {x : ℕ} (i : ℕ) → kind ≡ intKeyKind → x ≡ word ws n keyWord → compare x i ≡ compareKeys (keyAt ws text n) (soughtKey (Int i) raw)
-  unfolding keyWordsAt storedKey soughtKey
+  pub int-int : {x : ℕ} (i : ℕ) → kind ≡ intKeyKind → x ≡ word ws n keyWord → compare x i ≡ compareKeys (keyAt ws text n) (meantKey (Int i) raw)
+  unfolding keyWordsAt storedKey meantKey
   int-int i h q = simp (is-int h, q)
 
-  pub string-int : (i : ℕ) → kind ≢ intKeyKind → Ordering·gt ≡ compareKeys (keyAt ws text n) (soughtKey (Int i) raw)
-  unfolding keyWordsAt storedKey soughtKey
+  pub string-int : (i : ℕ) → kind ≢ intKeyKind → Ordering·gt ≡ compareKeys (keyAt ws text n) (meantKey (Int i) raw)
+  unfolding keyWordsAt storedKey meantKey
   string-int i h = simp (is-string h)
 
-  pub int-string : kind ≡ intKeyKind → Ordering·lt ≡ compareKeys (keyAt ws text n) (soughtKey String raw)
-  unfolding keyWordsAt storedKey soughtKey
+  pub int-string : kind ≡ intKeyKind → Ordering·lt ≡ compareKeys (keyAt ws text n) (meantKey String raw)
+  unfolding keyWordsAt storedKey meantKey
   int-string h = simp (is-int h)
 
   -- A String is the part of the text that is compared.
@@ -80,6 +80,6 @@ module _ (ws text : List ℕ) (n : ℕ) (raw : List ℕ) {kind : ℕ} (e : kind 
     unfolding keyWordsAt
     string-inside i = omega (arith, i (λ z. h (e ∙ z)))
 
-    pub string-string : compareBytes (take (start + len - start) (drop start text)) (decoded raw) ≡ compareKeys (keyAt ws text n) (soughtKey String raw)
-    unfolding keyWordsAt storedKey soughtKey
+    pub string-string : compareBytes (take (start + len - start) (drop start text)) (decoded raw) ≡ compareKeys (keyAt ws text n) (meantKey String raw)
+    unfolding keyWordsAt storedKey meantKey
     string-string = simp (is-string h, add-sub-cancel-left, p, q)

@@ -9,7 +9,7 @@ use native.Mathlib.Decide.{ℕ-discrete}
 use borrow.Author.Tests.{eq-eqb, ne-eqb}
 use lib.Dec.{eqb}
 use Rattle.config.specs.Limits.{recordWidth}
-use Rattle.records.specs.declared.siblings.Place.the-variants.{Between}
+use Rattle.records.specs.declared.siblings.Position.the-variants.{Between}
 use Rattle.records.specs.declared.store.Record.{Record}
 use Rattle.records.specs.Words.{childWord, nextWord}
 use Rattle.records.specs.Store.{recordCount, word}

@@ -12,7 +12,7 @@ use Rattle.records.specs.Words.{kindWord, keyWord, keyLengthWord, childW
 use Rattle.records.specs.Store.{recordCount, word}
 use Rattle.records.specs.Records.{keyWordsAt, valueAt}
 use Rattle.records.specs.Keys.{InText}
-use Rattle.records.specs.Siblings.{children, place, Within, WellFormed}
+use Rattle.records.specs.Siblings.{children, position, Within, WellFormed}
 use Rattle.records.specs.Nodes.{Nodes, nil, node, count, Context, plug}
 use Rattle.records.specs.Holds.{Represents, Rising, Holds}
 use Rattle.records.proofs.Chains.{chain-end}
@@ -83,8 +83,8 @@ module _ {ws text : List ℕ} {used : ℕ} (n : ℕ) (r : Record) (c s : Nodes) 
       go (node m q d t) e = let i = e m (omega (arith, indicator-same m)) in (i .0, i .1, go t (λ j p. e j (omega arith)))
 
   -- What `find` answers: the place of the key among the children.
-  pub place-is : (key : Key) → place ws text key n ≡ seekNode (keyStands text key) 0 c
-  place-is key = rw children-are (seek-numbers ws text key 0 c (node-represented .1))
+  pub position-is : (key : Key) → position ws text key n ≡ seekNode (keyStands text key) 0 c
+  position-is key = rw children-are (seek-numbers ws text key 0 c (node-represented .1))
 
 -- What the functions ask of the words.
 module _ {ws text : List ℕ} {used : ℕ} {f : Nodes} (k : Holds ws text used f) where

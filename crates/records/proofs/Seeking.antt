@@ -1,4 +1,4 @@
--- The place of a key in a line of nodes, a node put in there, and the words that then represent the line.
+-- The position of a key in a line of nodes, a node put in there, and the words that then represent the line.
 use mathlib.Core.Path.{_≡_, refl, ap, sym, _∙_, subst}
 use mathlib.Core.Logic.{_≢_, _⊎_, inl, inr, ⊎-elim}
 use mathlib.Core.Bool.{cond}
@@ -11,8 +11,8 @@ use lib.Dec.{eqb}
 use Rattle.config.specs.Limits.{recordWidth}
 use Rattle.key.specs.Keys.{Key}
 use Rattle.key.specs.KeyOrder.{compareKeys, choose}
-use Rattle.records.specs.declared.siblings.Place.{Place}
-use Rattle.records.specs.declared.siblings.Place.the-variants.{Found, Between}
+use Rattle.records.specs.declared.siblings.Position.{Position}
+use Rattle.records.specs.declared.siblings.Position.the-variants.{Found, Between}
 use Rattle.records.specs.declared.store.Record.{Record}
 use Rattle.records.specs.Words.{childWord, nextWord}
 use Rattle.records.specs.Store.{word}
@@ -23,8 +23,8 @@ use Rattle.records.specs.Holds.{Row, Represents}
 use Rattle.records.proofs.Chains.{never-both}
 use Rattle.records.proofs.Forests.{indicator-same, record-kept, frame, numbers}
 
--- The place in a line of nodes, each of which stands somewhere to the key, behind prev.
-abbrev pub seekNode : (Record → Ordering) → ℕ → Nodes → Place
+-- The position in a line of nodes, each of which stands somewhere to the key, behind prev.
+abbrev pub seekNode : (Record → Ordering) → ℕ → Nodes → Position
 seekNode stands prev nil = Between prev 0
 seekNode stands prev (node m r c s) = choose (stands r) (seekNode stands m s) (Found m) (Between prev m)
 

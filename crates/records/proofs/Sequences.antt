@@ -3,7 +3,7 @@ use mathlib.Core.Path.{_≡_, refl, subst}
 use mathlib.Core.List.{List}
 use Prim.Native.Nat.{ℕ, _+_, _<_, Ordering, Ordering·lt}
 use native.Mathlib.Omega.{arith}
-use Rattle.records.specs.declared.siblings.Place.the-variants.{Between}
+use Rattle.records.specs.declared.siblings.Position.the-variants.{Between}
 use Rattle.records.specs.declared.store.ValueWords.{ValueWords}
 use Rattle.records.specs.declared.store.Record.{Record}
 use Rattle.records.specs.Words.{sequenceKind}
@@ -24,16 +24,16 @@ use Rattle.records.proofs.Valued.{value-holds}
 abbrev pub behindAll : Record → Ordering
 behindAll r = Ordering·lt
 
-last-place : (prev : ℕ) (f : Nodes) → seekNode behindAll prev f ≡ Between (lastOf prev (numbers f)) 0
-last-place prev nil = refl
-last-place prev (node m r c s) = last-place m s
+last-position : (prev : ℕ) (f : Nodes) → seekNode behindAll prev f ≡ Between (lastOf prev (numbers f)) 0
+last-position prev nil = refl
+last-position prev (node m r c s) = last-position m s
 
 module _ {ws text : List ℕ} {used : ℕ} (n : ℕ) (r : Record) (c s : Nodes) (a : Context) (k : Holds ws text used (plug a (node n r c s))) (v : ValueWords) where
   pub push-holds : used < recordCount ws
       → Holds (inserted ws used n (lastOf 0 (children ws n)) 0 (unkeyed v)) text (used + 1) (plug a (node n r (insertNode behindAll used (unkeyed v) c) s))
   push-holds l =
       rw (children-are n r c s a k)
-      (insert-holds n r c s a k l (unkeyed v) behindAll (lastOf 0 (numbers c)) 0 (last-place 0 c) (λ i. omega arith))
+      (insert-holds n r c s a k l (unkeyed v) behindAll (lastOf 0 (numbers c)) 0 (last-position 0 c) (λ i. omega arith))
 
 module _ {ws text : List ℕ} {used : ℕ} (n : ℕ) (r : Record) (s : Nodes) (a : Context) (k : Holds ws text used (plug a (node n r nil s))) (v : ValueWords) where
   abbrev sequence : Nodes → Nodes

@@ -7,20 +7,21 @@ use lib.Dec.{leb, eqb}
 use Rattle.key.specs.Keys.{str}
 use Rattle.records.specs.declared.adding.Appended.{Appended}
 use Rattle.records.specs.declared.adding.Appended.the-variants.{Used, TooFew}
-use Rattle.records.specs.declared.siblings.Place.{Place}
-use Rattle.records.specs.declared.siblings.Place.the-variants.{Found, Between}
+use Rattle.records.specs.declared.siblings.Position.{Position}
+use Rattle.records.specs.declared.siblings.Position.the-variants.{Found, Between}
 use Rattle.records.specs.declared.store.ValueWords.{ValueWords}
 use Rattle.records.specs.declared.store.Record.{Record}
 use Rattle.records.specs.Words.{kindWord, uninitializedKind, mapKind, sequenceKind, noKeyKind, stringKeyKind}
 use Rattle.records.specs.Store.{recordCount, word}
 use Rattle.records.specs.Records.{valueAt, withValue, inserted}
-use Rattle.records.specs.Siblings.{children, lastOf, place}
+use Rattle.records.specs.Siblings.{children, lastOf, position}
 
 -- The words that a call leaves, and its answer.
 pub record Change : Type 0 where
   pub words : List ℕ
   pub answer : Appended
 
+-- The words ws and the answer r are as the change has them.
 abbrev pub Leaves : Change → List ℕ → Appended → Type 0
 Leaves change ws r = (ws ≡ change .words) × (r ≡ change .answer)
 
@@ -63,10 +64,10 @@ appendedHere ws used n v =
 unfoldable pub childAdded : List ℕ → ℕ → ℕ → ℕ → ℕ → ValueWords → Change
 childAdded ws used n prev next v = ifRoom ws (used + 1) (inserted ws used n prev next (emptyKeyed v))
 
--- The choice by a place.
-abbrev pub atPlace : {A : Type 0} → Place → (ℕ → A) → (ℕ → ℕ → A) → A
-atPlace (Found m) found between = found m
-atPlace (Between prev next) found between = between prev next
+-- The choice by a position.
+abbrev pub atPosition : {A : Type 0} → Position → (ℕ → A) → (ℕ → ℕ → A) → A
+atPosition (Found m) found between = found m
+atPosition (Between prev next) found between = between prev next
 
 -- The rule at record n: "a Map adds it under its empty key, calling the same rule again". Each call is at a child, whose number is
 -- greater, so that as much fuel as there are records from n on isn't used up: `append`, which has none, answers the same for all such fuel.
@@ -74,5 +75,5 @@ unfoldable pub appended : ℕ → List ℕ → List ℕ → ℕ → ℕ → Valu
 appended zero ws text used n v = record { words = ws; answer = TooFew }
 appended (suc fuel) ws text used n v =
     cond (eqb (word ws n kindWord) mapKind)
-    (atPlace (place ws text (str []) n) (λ m. appended fuel ws text used m v) (λ prev next. childAdded ws used n prev next v))
+    (atPosition (position ws text (str []) n) (λ m. appended fuel ws text used m v) (λ prev next. childAdded ws used n prev next v))
     (appendedHere ws used n v)

@@ -21,7 +21,7 @@ abbrev pub Represents : List ℕ → Nodes → Type 0
 Represents ws nil = Unit {0}
 Represents ws (node n r c s) = Row ws n r (first c) (first s) × Represents ws c × Represents ws s
 
--- The number n is below each of a forest's.
+-- Each number of the forest is above n.
 abbrev pub Above : ℕ → Nodes → Type 0
 Above n f = (m : ℕ) → 0 < count m f → n < m
 

@@ -1,4 +1,4 @@
--- The key of a record, and a key that is looked for.
+-- The key of a record, and a key that is handed in.
 use Prim.Native.Nat.{ℕ, _+_, _≤_}
 use mathlib.Core.Path.{_≡_}
 use mathlib.Core.Bool.{cond}
@@ -7,8 +7,8 @@ use lib.Dec.{eqb}
 use lib.ListN.{length, take, drop}
 use Rattle.decode.specs.Decoding.{decoded}
 use Rattle.key.specs.Keys.{Key, int, str}
-use Rattle.records.specs.declared.keys.Sought.{Sought}
-use Rattle.records.specs.declared.keys.Sought.the-variants.{Int, String}
+use Rattle.records.specs.declared.keys.RawKey.{RawKey}
+use Rattle.records.specs.declared.keys.RawKey.the-variants.{Int, String}
 use Rattle.records.specs.declared.store.KeyWords.{KeyWords}
 use Rattle.records.specs.Words.{intKeyKind}
 use Rattle.records.specs.Records.{keyWordsAt}
@@ -26,7 +26,7 @@ keyAt ws text n = storedKey text (keyWordsAt ws n)
 abbrev pub InText : List ℕ → KeyWords → Type 0
 InText text k = (k .kind ≡ intKeyKind → ⊥) → k .offset + k .len ≤ length text
 
--- The key that is looked for: an Int, or a raw segment decoded.
-unfoldable pub soughtKey : Sought → List ℕ → Key
-soughtKey (Int i) raw = int i
-soughtKey String raw = str (decoded raw)
+-- The key that is meant: an Int, or a raw segment decoded.
+unfoldable pub meantKey : RawKey → List ℕ → Key
+meantKey (Int i) raw = int i
+meantKey String raw = str (decoded raw)

@@ -1,11 +1,11 @@
--- Lists of siblings, and the place of a key in one.
+-- Lists of siblings, and the position of a key in one.
 use Prim.Native.Nat.{ℕ, zero, suc, _<_, Ordering}
 use mathlib.Core.List.{List, [], _∷_}
 use lib.ListN.{length}
 use Rattle.key.specs.Keys.{Key}
 use Rattle.key.specs.KeyOrder.{compareKeys, choose}
-use Rattle.records.specs.declared.siblings.Place.{Place}
-use Rattle.records.specs.declared.siblings.Place.the-variants.{Found, Between}
+use Rattle.records.specs.declared.siblings.Position.{Position}
+use Rattle.records.specs.declared.siblings.Position.the-variants.{Found, Between}
 use Rattle.records.specs.Words.{childWord, nextWord}
 use Rattle.records.specs.Store.{recordCount, word}
 use Rattle.records.specs.Records.{keyWordsAt}
@@ -30,14 +30,14 @@ lastOf d (m ∷ ms) = lastOf m ms
 abbrev pub standing : List ℕ → List ℕ → Key → ℕ → Ordering
 standing ws text k n = compareKeys (keyAt ws text n) k
 
--- The place in a list of siblings, each of which stands somewhere to the key, behind prev.
-unfoldable pub seek : (ℕ → Ordering) → ℕ → List ℕ → Place
+-- The position in a list of siblings, each of which stands somewhere to the key, behind prev.
+unfoldable pub seek : (ℕ → Ordering) → ℕ → List ℕ → Position
 seek stands prev [] = Between prev 0
 seek stands prev (m ∷ ms) = choose (stands m) (seek stands m ms) (Found m) (Between prev m)
 
--- The place of the key k among the children of record n.
-abbrev pub place : List ℕ → List ℕ → Key → ℕ → Place
-place ws text k n = seek (standing ws text k) 0 (children ws n)
+-- The position of the key k among the children of record n.
+abbrev pub position : List ℕ → List ℕ → Key → ℕ → Position
+position ws text k n = seek (standing ws text k) 0 (children ws n)
 
 -- Each number of a list lies between two bounds.
 abbrev pub Within : ℕ → ℕ → List ℕ → Type 0

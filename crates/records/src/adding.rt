@@ -4,9 +4,9 @@ ghost use Prim.Native.Nat.{ℕ, _+_, _-_, _<_, _≤_, _^_};
 ghost use Rattle.records.specs.Store.{recordCount};
 ghost use Rattle.records.specs.Siblings.{Linked, WellFormed};
 ghost use Rattle.records.specs.Adding.{unkeyed, emptyKeyed, Leaves, childAdded, pushed, sequenceOfTwo, paired, appendedHere, appended};
-use crate::keys::Sought;
+use crate::keys::RawKey;
 use crate::siblings;
-use crate::siblings::Place;
+use crate::siblings::Position;
 use crate::store;
 use crate::store::KeyWords;
 use crate::store::Record;
@@ -46,7 +46,7 @@ fn empty_keyed(value: ValueWords) -> Record
     }
 }
 
-// Adds a value as a new child under the empty key of the map n, whose place is between prev and next. Without room nothing changes.
+// Adds a value as a new child under the empty key of the map n, whose position is between prev and next. Without room nothing changes.
 fn add_child(
     words: &mut [u32],
     used: u32,
@@ -134,9 +134,9 @@ pub fn append(words: &mut [u32], text: &[u8], used: u32, n: u32, value: ValueWor
         → Leaves (appended fuel (now (words .entry)) (now (text .entry)) used n value) (now (words .exit)) r) ⌝ }
 {
     if store::get_word(words, n, store::KIND) == store::MAP {
-        match siblings::find(words, text, n, Sought::String, b"") {
-            Place::Found(m) => append(words, text, used, m, value),
-            Place::Between(prev, next) => add_child(words, used, n, prev, next, value),
+        match siblings::find(words, text, n, RawKey::String, b"") {
+            Position::Found(m) => append(words, text, used, m, value),
+            Position::Between(prev, next) => add_child(words, used, n, prev, next, value),
         }
     } else {
         append_here(words, used, n, value)

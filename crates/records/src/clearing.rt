@@ -1,4 +1,4 @@
-// Slices cleared.
+// Slices made zero: a reading's before it starts and after a refusal, and that of a list.
 ghost use mathlib.Core.Path.{_≡_};
 ghost use lib.ListN.{length, replicate};
 

@@ -1,11 +1,11 @@
-// The order of keys, and where the key of a record stands to one that is looked for.
+// Keys compared, in the order of crate key: where the key of a record stands to one that is looked for.
 ghost use mathlib.Core.Path.{_≡_};
 ghost use Prim.Native.Nat.{_<_, compare};
 ghost use Rattle.decode.specs.Decoding.{decoded};
 ghost use Rattle.records.specs.Store.{recordCount};
 ghost use Rattle.key.specs.KeyOrder.{compareBytes, compareKeys};
 ghost use Rattle.records.specs.Order.{orderingOf};
-ghost use Rattle.records.specs.Keys.{keyAt, soughtKey, InText};
+ghost use Rattle.records.specs.Keys.{keyAt, meantKey, InText};
 ghost use Rattle.records.specs.Records.{keyWordsAt};
 use crate::store;
 
@@ -16,8 +16,8 @@ pub enum Ordering {
     Greater,
 }
 
-// A key that is looked for: an Int and its value, or a String, which is a segment decoded.
-pub enum Sought {
+// A key that is handed in, to be found or to be entered: an Int and its value, or a String, whose raw segment is handed in beside it.
+pub enum RawKey {
     Int(u32),
     String,
 }
@@ -68,20 +68,20 @@ fn compare_bytes(bytes: &[u8], raw: &[u8]) -> Ordering
 }
 
 // Where the key of record n stands to the one that is looked for.
-pub(crate) fn compare_key(words: &[u32], text: &[u8], n: u32, key: Sought, raw: &[u8]) -> Ordering
+pub(crate) fn compare_key(words: &[u32], text: &[u8], n: u32, key: RawKey, raw: &[u8]) -> Ordering
     requires { ⌜ (n < recordCount (now words)) × InText (now text) (keyWordsAt (now words) n) ⌝ }
-    ensures { λ r. ⌜ orderingOf r ≡ compareKeys (keyAt (now (words .entry)) (now (text .entry)) n) (soughtKey key (now (raw .entry))) ⌝ }
+    ensures { λ r. ⌜ orderingOf r ≡ compareKeys (keyAt (now (words .entry)) (now (text .entry)) n) (meantKey key (now (raw .entry))) ⌝ }
 {
     let kind = store::get_word(words, n, store::KEY_KIND);
     match key {
-        Sought::Int(int) => {
+        RawKey::Int(int) => {
             if kind == store::INT_KEY {
                 compare_ints(store::get_word(words, n, store::KEY), int)
             } else {
                 Ordering::Greater
             }
         }
-        Sought::String => {
+        RawKey::String => {
             if kind == store::INT_KEY {
                 return Ordering::Less;
             }

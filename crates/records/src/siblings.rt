@@ -2,25 +2,25 @@
 ghost use mathlib.Core.Path.{_≡_};
 ghost use Prim.Native.Nat.{_<_};
 ghost use Rattle.records.specs.Store.{recordCount};
-ghost use Rattle.records.specs.Keys.{soughtKey};
-ghost use Rattle.records.specs.Siblings.{chain, children, standing, seek, place, lastOf, Ends, Linked, WellFormed};
+ghost use Rattle.records.specs.Keys.{meantKey};
+ghost use Rattle.records.specs.Siblings.{chain, children, standing, seek, position, lastOf, Ends, Linked, WellFormed};
 ghost use Rattle.records.specs.Records.{linked, inserted};
 use crate::keys;
 use crate::keys::Ordering;
-use crate::keys::Sought;
+use crate::keys::RawKey;
 use crate::store;
 use crate::store::Record;
 
 // Where a key stands among the children of a map: at a child, or between two, 0 standing for none.
-pub enum Place {
+pub enum Position {
     Found(u32),
     Between(u32, u32),
 }
 
-// The place of a key among the siblings from `first` on, of which `before` is the one before the first.
-fn walk(words: &[u32], text: &[u8], before: u32, first: u32, key: Sought, raw: &[u8]) -> Place
+// The position of a key among the siblings from `first` on, of which `before` is the one before the first.
+fn walk(words: &[u32], text: &[u8], before: u32, first: u32, key: RawKey, raw: &[u8]) -> Position
     requires { ⌜ WellFormed (now words) (now text) ⌝ ∗ ⌜ Ends (now words) first ⌝ }
-    ensures { λ r. ⌜ r ≡ seek (standing (now (words .entry)) (now (text .entry)) (soughtKey key (now (raw .entry)))) before
+    ensures { λ r. ⌜ r ≡ seek (standing (now (words .entry)) (now (text .entry)) (meantKey key (now (raw .entry)))) before
         (chain (now (words .entry)) (recordCount (now (words .entry))) first) ⌝ }
 {
     let mut prev = before;
@@ -32,20 +32,20 @@ fn walk(words: &[u32], text: &[u8], before: u32, first: u32, key: Sought, raw: &
                 cur = store::get_word(words, cur, store::NEXT);
             }
             Ordering::Equal => {
-                return Place::Found(cur);
+                return Position::Found(cur);
             }
             Ordering::Greater => {
-                return Place::Between(prev, cur);
+                return Position::Between(prev, cur);
             }
         }
     }
-    Place::Between(prev, 0)
+    Position::Between(prev, 0)
 }
 
-// The place of a key among the children of a record.
-pub fn find(words: &[u32], text: &[u8], parent: u32, key: Sought, raw: &[u8]) -> Place
+// The position of a key among the children of a record.
+pub fn find(words: &[u32], text: &[u8], parent: u32, key: RawKey, raw: &[u8]) -> Position
     requires { ⌜ WellFormed (now words) (now text) ⌝ ∗ ⌜ parent < recordCount (now words) ⌝ }
-    ensures { λ r. ⌜ r ≡ place (now (words .entry)) (now (text .entry)) (soughtKey key (now (raw .entry))) parent ⌝ }
+    ensures { λ r. ⌜ r ≡ position (now (words .entry)) (now (text .entry)) (meantKey key (now (raw .entry))) parent ⌝ }
 {
     let first = store::get_word(words, parent, store::CHILD);
     walk(words, text, 0, first, key, raw)

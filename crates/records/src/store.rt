@@ -1,4 +1,5 @@
-// The words of a record, read and written. How wide a record is and in which word a thing stands is said here alone.
+// The words of a record, read and written. In the code, how wide a record is and in which word a thing stands is said here
+// alone; in the contracts it is specs/Words.
 ghost use mathlib.Core.Path.{_≡_};
 ghost use Prim.Native.Nat.{_<_};
 ghost use lib.Dec.{leb};

@@ -21,7 +21,8 @@ use Rattle.reading.specs.Refusals.{code, tooFewRecords, tooLittleText}
 use Rattle.reading.specs.Charging.{Lent, Made, over}
 use Rattle.reading.specs.Adding.{leafText, valueAt, appendValue, atPath}
 use Rattle.reading.specs.Shape.{Shaped}
-use Rattle.reading.proofs.Results.{Each, All, gives}
+use Rattle.reading.specs.Covering.{gives}
+use Rattle.reading.proofs.Results.{Each, All}
 use Rattle.reading.proofs.Adds.{Adds, append-at-adds}
 use Rattle.reading.proofs.Shaped.{append-at-shaped}
 use Rattle.tree.specs.declared.Here.{Here}

@@ -10,18 +10,18 @@ use lib.Dec.{ltb}
 use borrow.Author.Tests.{lt-ltb, le-ltb, le-leb, lt-leb}
 use Rattle.key.specs.Keys.{str}
 use Rattle.records.specs.declared.adding.Appended.the-variants.{Used, TooFew}
-use Rattle.records.specs.declared.siblings.Place.{Place}
-use Rattle.records.specs.declared.siblings.Place.the-variants.{Found, Between}
+use Rattle.records.specs.declared.siblings.Position.{Position}
+use Rattle.records.specs.declared.siblings.Position.the-variants.{Found, Between}
 use Rattle.records.specs.declared.store.ValueWords.{ValueWords}
 use Rattle.records.specs.Store.{recordCount}
 use Rattle.records.specs.Records.{withValue, inserted}
-use Rattle.records.specs.Siblings.{place, children, lastOf}
-use Rattle.records.specs.Adding.{Change, ifRoom, unkeyed as elementOf, emptyKeyed, sequenceOfTwo, pushed, paired, appendedHere, childAdded, atPlace, appended}
+use Rattle.records.specs.Siblings.{position, children, lastOf}
+use Rattle.records.specs.Adding.{Change, ifRoom, unkeyed as elementOf, emptyKeyed, sequenceOfTwo, pushed, paired, appendedHere, childAdded, atPosition, appended}
 use Rattle.records.specs.Nodes.{Nodes, nil, node, Context, plug}
 use Rattle.records.specs.Holds.{Holds}
 use Rattle.records.proofs.Forests.{indicator-same}
 use Rattle.records.proofs.Contexts.{count-plug, under, plug-under}
-use Rattle.records.proofs.Held.{node-used, node-rising, kind-is, place-is}
+use Rattle.records.proofs.Held.{node-used, node-rising, kind-is, position-is}
 use Rattle.records.proofs.Seeking.{seekNode, insertNode, keyStands}
 use Rattle.records.proofs.Grown.{insert-holds}
 use Rattle.records.proofs.Valued.{value-holds}
@@ -212,12 +212,12 @@ module _ (ws text : List ℕ) (used : ℕ) (L : Lent) (x : Leaf) (t zs : List �
   agree (suc f) (map cs) n l a s k tx lo =
       rw (kind-is n (recordOf l (map cs)) (nodes cs) s a k) (go (seekNode (keyStands text (str [])) 0 (nodes cs)) refl (agree f))
     where
-      go : (y : Place) → seekNode (keyStands text (str [])) 0 (nodes cs) ≡ y → Rule f
-          → Agrees (atPlace (place ws text (str []) n) (λ m. appended f ws text used m c) (λ p z. childAdded ws used n p z c)) (T n l a s)
+      go : (y : Position) → seekNode (keyStands text (str [])) 0 (nodes cs) ≡ y → Rule f
+          → Agrees (atPosition (position ws text (str []) n) (λ m. appended f ws text used m c) (λ p z. childAdded ws used n p z c)) (T n l a s)
           (over map (appendEmptyKey L x cs used t))
       go (Found m) e ih =
-          rw (place-is n (recordOf l (map cs)) (nodes cs) s a k (str []) ∙ e)
+          rw (position-is n (recordOf l (map cs)) (nodes cs) s a k (str []) ∙ e)
           (again f cs n l a s m k tx lo (occupied (keyStands text (str [])) (str []) cs 0 m e (turns text t zs (str []) cs full tx)) ih)
       go (Between p z) e ih =
-          rw (place-is n (recordOf l (map cs)) (nodes cs) s a k (str []) ∙ e)
+          rw (position-is n (recordOf l (map cs)) (nodes cs) s a k (str []) ∙ e)
           (new-child n l a s cs k p z e (vacant (keyStands text (str [])) (str []) cs 0 p z e (turns text t zs (str []) cs full tx)))

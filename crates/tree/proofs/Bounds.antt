@@ -8,14 +8,15 @@ use Rattle.key.specs.Keys.{Key}
 use Rattle.decode.specs.declared.Decoded.{Decoded}
 use Rattle.decode.specs.declared.Decoded.the-variants.{Yes}
 use Rattle.decode.proofs.Loops.{decoded-le}
-use Rattle.records.specs.declared.keys.Sought.{Sought}
-use Rattle.records.specs.declared.keys.Sought.the-variants.{Int, String as StringKey}
-use Rattle.records.specs.Keys.{soughtKey}
+use Rattle.records.specs.declared.keys.RawKey.{RawKey}
+use Rattle.records.specs.declared.keys.RawKey.the-variants.{Int, String as StringKey}
+use Rattle.records.specs.Keys.{meantKey}
 use Rattle.reading.specs.Values.{Value, map, child}
 use Rattle.reading.specs.Charging.{Lent, Made, Rule, charge}
 use Rattle.reading.specs.Adding.{keyText, leafText, enterKey, atPath}
 use Rattle.reading.specs.Reading.{lentBy}
-use Rattle.reading.proofs.Results.{Each, gives, refuses, gives-over, each-charge}
+use Rattle.reading.specs.Covering.{gives, refuses}
+use Rattle.reading.proofs.Results.{Each, gives-over, each-charge}
 use Rattle.reading.proofs.Rules.{Obeys, Passes, at-path, Entering, enter-obeys}
 use Rattle.tree.specs.declared.Here.{Here}
 use Rattle.tree.specs.declared.Performed.{Performed}
@@ -28,8 +29,8 @@ use Rattle.tree.specs.Stored.{Standing}
 use Rattle.tree.specs.Commands.{After, stood, stopped, Does, enters, further, Modest}
 use Rattle.tree.proofs.Lays.{lay-yes}
 
-key-le : (key : Sought) (raw : List ℕ) → length (keyText (soughtKey key raw)) ≤ length raw
-unfolding soughtKey
+key-le : (key : RawKey) (raw : List ℕ) → length (keyText (meantKey key raw)) ≤ length raw
+unfolding meantKey
 key-le (Int i) raw = omega arith
 key-le StringKey raw = decoded-le raw
 
@@ -39,9 +40,9 @@ leaf-le NoValue raw = omega arith
 leaf-le String raw = decoded-le raw
 
 -- What is laid is no longer than the raw bytes.
-pub key-laid-le : (text : List ℕ) (used : ℕ) (key : Sought) (raw : List ℕ) {d : Decoded} {len : ℕ}
-    → d ≡ layAnswer text used (keyText (soughtKey key raw)) → d ≡ Yes len → len ≤ length raw
-key-laid-le text used key raw e q = omega (arith, key-le key raw, lay-yes text used (keyText (soughtKey key raw)) e q .0)
+pub key-laid-le : (text : List ℕ) (used : ℕ) (key : RawKey) (raw : List ℕ) {d : Decoded} {len : ℕ}
+    → d ≡ layAnswer text used (keyText (meantKey key raw)) → d ≡ Yes len → len ≤ length raw
+key-laid-le text used key raw e q = omega (arith, key-le key raw, lay-yes text used (keyText (meantKey key raw)) e q .0)
 
 pub leaf-laid-le : (text : List ℕ) (used : ℕ) (kind : LeafKind) (raw : List ℕ) {d : Decoded} {len : ℕ}
     → d ≡ layAnswer text used (leafText (leafOf kind raw)) → d ≡ Yes len → len ≤ length raw
@@ -95,8 +96,8 @@ module _ {ws text ws' text' : List ℕ} {here : Here} (b : ℕ) (rule : Lent →
       go (stopped x) q = tt
 
 module _ {ws text ws' text' : List ℕ} {here : Here} {r : Performed} (s : Standing ws text here) where
-  pub enter-modest : (key : Sought) (raw : List ℕ) → Does ws text ws' text' here (enters (soughtKey key raw)) (further (soughtKey key raw)) r
+  pub enter-modest : (key : RawKey) (raw : List ℕ) → Does ws text ws' text' here (enters (meantKey key raw)) (further (meantKey key raw)) r
       → Modest here (length raw) r
   enter-modest key raw d =
-      modest (length raw) (enters (soughtKey key raw)) (further (soughtKey key raw))
-      (λ lent p. along (length raw) p (enterKey lent (soughtKey key raw)) (enter-obeys (entering (length raw) lent) (soughtKey key raw) (key-le key raw))) s d
+      modest (length raw) (enters (meantKey key raw)) (further (meantKey key raw))
+      (λ lent p. along (length raw) p (enterKey lent (meantKey key raw)) (enter-obeys (entering (length raw) lent) (meantKey key raw) (key-le key raw))) s d

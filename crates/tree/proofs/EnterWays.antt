@@ -12,23 +12,23 @@ use Rattle.decode.specs.Decoding.{decoded}
 use Rattle.decode.specs.declared.Decoded.{Decoded}
 use Rattle.decode.specs.declared.Decoded.the-variants.{Yes, No}
 use Rattle.key.specs.Keys.{Key, int, str}
-use Rattle.records.specs.declared.keys.Sought.{Sought}
-use Rattle.records.specs.declared.keys.Sought.the-variants.{Int, String}
-use Rattle.records.specs.declared.siblings.Place.{Place}
-use Rattle.records.specs.declared.siblings.Place.the-variants.{Found, Between}
+use Rattle.records.specs.declared.keys.RawKey.{RawKey}
+use Rattle.records.specs.declared.keys.RawKey.the-variants.{Int, String}
+use Rattle.records.specs.declared.siblings.Position.{Position}
+use Rattle.records.specs.declared.siblings.Position.the-variants.{Found, Between}
 use Rattle.records.specs.declared.store.KeyWords.{KeyWords}
 use Rattle.records.specs.declared.store.Record.{Record}
 use Rattle.records.specs.Words.{kindWord, uninitializedKind, mapKind}
 use Rattle.records.specs.Store.{recordCount, word}
 use Rattle.records.specs.Records.{inserted}
-use Rattle.records.specs.Keys.{soughtKey, InText}
-use Rattle.records.specs.Siblings.{standing, place, children, WellFormed}
+use Rattle.records.specs.Keys.{meantKey, InText}
+use Rattle.records.specs.Siblings.{standing, position, children, WellFormed}
 use Rattle.records.specs.Adding.{childless}
 use Rattle.records.specs.Nodes.{Nodes, node, plug}
 use Rattle.records.specs.Holds.{Holds}
 use Rattle.records.proofs.Chains.{between-within}
 use Rattle.records.proofs.Rows.{length-linked, length-withWords}
-use Rattle.records.proofs.Held.{place-is, other-text}
+use Rattle.records.proofs.Held.{position-is, other-text}
 use Rattle.records.proofs.Seeking.{seekNode, insertNode, keyStands}
 use Rattle.records.proofs.Grown.{insert-holds}
 use Rattle.reading.specs.Values.{Value, uninitialized, map, Forest, child}
@@ -58,9 +58,9 @@ use Rattle.tree.proofs.Needs.{mapNeed, Served, served, unserved, serve,
 use Rattle.tree.proofs.Appends.{over-charge, charge-few, charge-little, charge-made}
 
 -- The words of a new key are its label's, and its text lies where they say.
-key-words : (key : Sought) (raw : List ℕ) (o : ℕ)
-    → newKeyWords key o (length (keyText (soughtKey key raw))) ≡ labelWords (labelAt (soughtKey key raw) o)
-unfolding soughtKey
+key-words : (key : RawKey) (raw : List ℕ) (o : ℕ)
+    → newKeyWords key o (length (keyText (meantKey key raw))) ≡ labelWords (labelAt (meantKey key raw) o)
+unfolding meantKey
 key-words (Int i) raw o = refl
 key-words String raw o = go (decoded raw)
   where
@@ -79,26 +79,26 @@ module _ {ws text : List ℕ} {used filled : ℕ} {p : List Key} {v : Value} {t 
   at-map : Holds ws text used (plug (i .around) (node n (recordOf (i .label) (map cs)) (nodes cs) (i .rest)))
   at-map = subst (λ (q : Nodes). Holds ws text used q) (i .is (map cs)) (st .holds)
 
-  sought : {y : Place} → place ws text k n ≡ y → seekNode (keyStands text k) 0 (nodes cs) ≡ y
-  sought e = sym (place-is n (recordOf (i .label) (map cs)) (nodes cs) (i .rest) (i .around) at-map k) ∙ e
+  sought : {y : Position} → position ws text k n ≡ y → seekNode (keyStands text k) 0 (nodes cs) ≡ y
+  sought e = sym (position-is n (recordOf (i .label) (map cs)) (nodes cs) (i .rest) (i .around) at-map k) ∙ e
 
   abbrev so-laid : LaidAll t cs
   so-laid = i .texts t (map cs) (st .texts)
 
-  is-occupied : (m : ℕ) → place ws text k n ≡ Found m → Occupied k cs m
+  is-occupied : (m : ℕ) → position ws text k n ≡ Found m → Occupied k cs m
   is-occupied m e = occupied (keyStands text k) k cs 0 m (sought e) (turns text t (replicate (length text - length t) 0) k cs (st .full) so-laid)
 
-  is-vacant : (a b : ℕ) → place ws text k n ≡ Between a b → Vacant (keyStands text k) k cs
+  is-vacant : (a b : ℕ) → position ws text k n ≡ Between a b → Vacant (keyStands text k) k cs
   is-vacant a b e = vacant (keyStands text k) k cs 0 a b (sought e) (turns text t (replicate (length text - length t) 0) k cs (st .full) so-laid)
 
 -- After the map that is needed.
-module _ (ws text : List ℕ) (here : Here) (key : Sought) (raw : List ℕ) {ws1 : List ℕ} {r1 : Performed}
+module _ (ws text : List ℕ) (here : Here) (key : RawKey) (raw : List ℕ) {ws1 : List ℕ} {r1 : Performed}
     (er : r1 ≡ mapAnswer here (word ws (here .node) kindWord)) (ew : ws1 ≡ becomes ws (here .node) mapKind) {there : Here} (made-it : r1 ≡ MadeHere there) where
   abbrev k : Key
-  k = soughtKey key raw
+  k = meantKey key raw
 
   abbrev Promise : List ℕ → List ℕ → Performed → Type 0
-  Promise ws' text' r = Does ws text ws' text' here (enters (soughtKey key raw)) (further (soughtKey key raw)) r
+  Promise ws' text' r = Does ws text ws' text' here (enters (meantKey key raw)) (further (meantKey key raw)) r
 
   module _ {lent : Lent} {p : List Key} {v : Value} {t : List ℕ} (s : Stands lent ws text here p v t) where
     abbrev i : Leads p v (here .node)
@@ -111,7 +111,7 @@ module _ (ws text : List ℕ) (here : Here) (key : Sought) (raw : List ℕ) {ws1
         ∙ ap (λ (q : Made Forest). over (i .back) (bind q (λ ds u w. over map (atEntry k unchanged (enterNew lent k) ds u w)))) e
 
   -- The key has a child.
-  pub enter-found : {y : Place} → y ≡ place ws1 text (soughtKey key raw) (here .node) → {m : ℕ} → y ≡ Found m
+  pub enter-found : {y : Position} → y ≡ position ws1 text (meantKey key raw) (here .node) → {m : ℕ} → y ≡ Found m
       → Promise ws1 text (MadeHere (record { records = here .records; bytes = here .bytes; node = m }))
   enter-found e {m} q lent p v t s = go (serve mapNeed (s .stores) (s .leads) here er ew)
     where
@@ -139,7 +139,7 @@ module _ (ws text : List ℕ) (here : Here) (key : Sought) (raw : List ℕ) {ws1
               ∙ ap (λ (d : Forest). made (s .leads .back (map d)) (here .records) t) (sym (h .whole))
 
   -- The key is new.
-  module _ {y : Place} (e : y ≡ place ws1 text (soughtKey key raw) (here .node)) {prev next : ℕ} (q : y ≡ Between prev next) where
+  module _ {y : Position} (e : y ≡ position ws1 text (meantKey key raw) (here .node)) {prev next : ℕ} (q : y ≡ Between prev next) where
     module _ {lent : Lent} {p : List Key} {v : Value} {t : List ℕ} (s : Stands lent ws text here p v t) (cs : Forest)
         (f : expectMap (s .leads .at) (here .records) t ≡ made cs (here .records) t)
         (st : Stores ws1 text (here .records) (here .bytes) (s .leads .back (map cs)) t) where
@@ -247,29 +247,29 @@ module _ (ws text : List ℕ) (here : Here) (key : Sought) (raw : List ℕ) {ws1
         go (served cs a f st) = by-way s cs (f (here .records) t) st en
 
 -- The one before the place is a record.
-pub prev-inside : {ws text : List ℕ} {n : ℕ} (k : Key) → WellFormed ws text → n < recordCount ws → {y : Place} → y ≡ place ws text k n
+pub prev-inside : {ws text : List ℕ} {n : ℕ} (k : Key) → WellFormed ws text → n < recordCount ws → {y : Position} → y ≡ position ws text k n
     → {prev next : ℕ} → y ≡ Between prev next → prev < recordCount ws
 prev-inside {ws} {text} {n} k w l e {prev} {next} q =
     between-within (standing ws text k) n (recordCount ws) 0 prev next (children ws n) (sym e ∙ q) (omega arith) (w .links .rising n l)
 
 -- The ways through `enter_new`.
-module _ (ws text : List ℕ) (here : Here) (prev next : ℕ) (key : Sought) (raw : List ℕ) {b : Bool} (e : b ≡ leb (here .records + 1) (recordCount ws)) where
+module _ (ws text : List ℕ) (here : Here) (prev next : ℕ) (key : RawKey) (raw : List ℕ) {b : Bool} (e : b ≡ leb (here .records + 1) (recordCount ws)) where
   pub new-few : {ws' text' : List ℕ} → b ≡ false → Entered ws text here prev next key raw ws' text' (Refused (code tooFewRecords))
   new-few q = Entered.few (leb-false (here .records + 1) (recordCount ws) (sym e ∙ q))
 
-  module _ (q : b ≡ true) {d : Decoded} (ed : d ≡ layAnswer text (here .bytes) (keyText (soughtKey key raw))) where
+  module _ (q : b ≡ true) {d : Decoded} (ed : d ≡ layAnswer text (here .bytes) (keyText (meantKey key raw))) where
     room : here .records + 1 ≤ recordCount ws
     room = leb-true (here .records + 1) (recordCount ws) (sym e ∙ q)
 
     pub new-little : {ws' text' : List ℕ} → d ≡ No → Entered ws text here prev next key raw ws' text' (Refused (code tooLittleText))
-    new-little n = Entered.little room (lay-no text (here .bytes) (keyText (soughtKey key raw)) ed n)
+    new-little n = Entered.little room (lay-no text (here .bytes) (keyText (meantKey key raw)) ed n)
 
-    pub new-entered : {ws' text' : List ℕ} → text' ≡ laid text (here .bytes) (keyText (soughtKey key raw)) → {len : ℕ} → d ≡ Yes len
+    pub new-entered : {ws' text' : List ℕ} → text' ≡ laid text (here .bytes) (keyText (meantKey key raw)) → {len : ℕ} → d ≡ Yes len
         → {kw : KeyWords} → kw ≡ newKeyWords key (here .bytes) len
         → ws' ≡ inserted ws (here .records) (here .node) prev next (record { key = kw; value = childless uninitializedKind })
         → Entered ws text here prev next key raw ws' text' (MadeHere (record { records = here .records + 1; bytes = here .bytes + len; node = here .records }))
     new-entered {ws'} {text'} et {len} y {kw} ek ews =
-        let l = lay-yes text (here .bytes) (keyText (soughtKey key raw)) ed y in
+        let l = lay-yes text (here .bytes) (keyText (meantKey key raw)) ed y in
         subst (λ (n : ℕ). Entered ws text here prev next key raw ws' text' (MadeHere (record { records = here .records + 1; bytes = here .bytes + n; node = here .records })))
         (sym (l .0))
         (Entered.entered room (l .1)

@@ -5,7 +5,7 @@ use Prim.Native.Nat.{ℕ, Ordering, Ordering·lt, Ordering·eq, Ordering·gt}
 use native.Mathlib.Omega.{arith}
 use Rattle.key.specs.Keys.{Key}
 use Rattle.records.specs.declared.store.Record.{Record}
-use Rattle.records.specs.declared.siblings.Place.the-variants.{Found, Between}
+use Rattle.records.specs.declared.siblings.Position.the-variants.{Found, Between}
 use Rattle.records.specs.Nodes.{Nodes, nil, node, Context, here, along, plug}
 use Rattle.records.proofs.Chains.{never-both}
 use Rattle.records.proofs.Seeking.{seekNode, insertNode, keyStands}

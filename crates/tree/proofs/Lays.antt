@@ -1,5 +1,6 @@
 -- Text laid behind what is used.
 use mathlib.Core.Path.{_≡_, ap, sym, _∙_}
+use mathlib.Core.Bool.{cond}
 use mathlib.Core.List.{List, [], _++_, append-assoc}
 use Prim.Native.Nat.{ℕ, zero, suc, _+_, _-_, _<_, _≤_}
 use native.Mathlib.Omega.{arith}
@@ -7,9 +8,10 @@ use native.Mathlib.Decide.{decLe}
 use lib.ListN.{length, take, drop, replicate, length-append, length-drop, take-append-drop}
 use lib.Seq.{take-at, drop-at, length-take-le, drop-drop}
 use borrow.Author.Tests.{le-leb, lt-leb}
-use Rattle.decode.specs.Decoding.{decoded, written, answer}
+use Rattle.decode.specs.Decoding.{decoded, fitsIn, answerOf, answer, written}
 use Rattle.decode.specs.declared.Decoded.{Decoded}
 use Rattle.decode.specs.declared.Decoded.the-variants.{Yes, No}
+use Rattle.decode.proofs.Loops.{told}
 use Rattle.tree.specs.Laying.{layAnswer, laid}
 
 -- By whether the bytes fit.
@@ -67,10 +69,11 @@ module _ (text : List ℕ) (used : ℕ) (l : used ≤ length text) where
 
 -- What decoding into the tail answers and leaves.
 module _ (text raw : List ℕ) (used : ℕ) (l : used ≤ length text) where
-  pub decode-answer : answer raw (drop used text) ≡ layAnswer text used (decoded raw)
-  decode-answer = go (decLe (used + length (decoded raw)) (length text))
+  pub decode-answer : (d : Decoded) → answerOf d ≡ answer raw (drop used text) → d ≡ layAnswer text used (decoded raw)
+  decode-answer d e = told raw (drop used text) d e ∙ go (decLe (used + length (decoded raw)) (length text))
     where
-      go : Dec (used + length (decoded raw) ≤ length text) → answer raw (drop used text) ≡ layAnswer text used (decoded raw)
+      go : Dec (used + length (decoded raw) ≤ length text)
+          → cond (fitsIn raw (drop used text)) (Yes (length (decoded raw))) No ≡ layAnswer text used (decoded raw)
       go (yes h) = rw (answer-yes text used (decoded raw) h) (simp (le-leb (length (decoded raw)) (length (drop used text)) (omega (arith, length-drop used text))))
       go (no h) =
           rw (answer-no text used (decoded raw) (omega arith)) (simp (lt-leb (length (decoded raw)) (length (drop used text)) (omega (arith, length-drop used text))))

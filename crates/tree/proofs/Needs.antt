@@ -25,7 +25,8 @@ use Rattle.reading.specs.Records.{kind}
 use Rattle.reading.specs.Laid.{Laid}
 use Rattle.reading.specs.Shape.{Shaped}
 use Rattle.reading.specs.Scanning.{needMap, needSequence}
-use Rattle.reading.proofs.Results.{Each, All, gives}
+use Rattle.reading.specs.Covering.{gives}
+use Rattle.reading.proofs.Results.{Each, All}
 use Rattle.reading.proofs.Adds.{Adds, perform-adds}
 use Rattle.reading.proofs.Shaped.{perform-shaped}
 use Rattle.tree.specs.declared.Here.{Here}

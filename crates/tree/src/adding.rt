@@ -2,7 +2,7 @@
 ghost use mathlib.Core.Path.{_≡_};
 ghost use Prim.Native.Nat.{_+_};
 ghost use lib.ListN.{length};
-ghost use Rattle.records.specs.Keys.{soughtKey};
+ghost use Rattle.records.specs.Keys.{meantKey};
 ghost use Rattle.tree.specs.Leaves.{leafOf, newValueWords};
 ghost use Rattle.tree.specs.Stored.{Standing};
 ghost use Rattle.tree.specs.Commands.{Does, appends, pushes, inserts, stays, further, Countable};
@@ -15,7 +15,7 @@ use crate::refusals;
 use decode::Decoded;
 use records::adding;
 use records::adding::Appended;
-use records::keys::Sought;
+use records::keys::RawKey;
 use records::store;
 use records::store::ValueWords;
 
@@ -50,7 +50,7 @@ fn value_words(kind: LeafKind, offset: u32, len: u32) -> ValueWords
 }
 
 // Adds a value at the record, by the rule of Adding. The text comes first: where it doesn't fit, the rule runs all the same, to tell whether
-// the records are too few, which is the refusal then. What stands in the words and behind the used text is free after a refusal.
+// the records are too few, which is the refusal then. After a refusal what the words and the text hold is free.
 pub fn append_value(
     words: &mut [u32],
     text: &mut [u8],
@@ -84,7 +84,7 @@ pub fn append_value(
     }
 }
 
-// Adds a value last in the sequence that is needed at the record. What stands in the words and behind the used text is free after a refusal.
+// Adds a value last in the sequence that is needed at the record. After a refusal what the words and the text hold is free.
 pub fn push(
     words: &mut [u32],
     text: &mut [u8],
@@ -103,19 +103,19 @@ pub fn push(
 }
 
 // Adds a value under a key of the map that is needed at the record: the key is entered and the value added there. A new key's child is
-// Uninitialized and so becomes the value. What stands in the words and behind the used text is free after a refusal.
+// Uninitialized and so becomes the value. After a refusal what the words and the text hold is free.
 pub fn insert_unique(
     words: &mut [u32],
     text: &mut [u8],
     here: Here,
-    key: Sought,
+    key: RawKey,
     raw: &[u8],
     kind: LeafKind,
     value: &[u8],
 ) -> Performed
     requires { ⌜ Standing (now words) (now text) here ⌝ ∗ ⌜ Countable here 4 (length (now raw) + length (now value)) ⌝ }
     ensures { λ r. ⌜ Does (now (words .entry)) (now (text .entry)) (now (words .exit)) (now (text .exit)) here
-        (inserts (soughtKey key (now (raw .entry))) (leafOf kind (now (value .entry)))) (further (soughtKey key (now (raw .entry)))) r ⌝ }
+        (inserts (meantKey key (now (raw .entry))) (leafOf kind (now (value .entry)))) (further (meantKey key (now (raw .entry)))) r ⌝ }
 {
     match entering::enter(words, text, here, key, raw) {
         Performed::Made(there) => append_value(words, text, there, kind, value),

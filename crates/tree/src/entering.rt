@@ -3,7 +3,7 @@ ghost use mathlib.Core.Path.{_≡_};
 ghost use Prim.Native.Nat.{_≤_, _<_};
 ghost use lib.ListN.{length};
 ghost use Rattle.records.specs.Store.{recordCount};
-ghost use Rattle.records.specs.Keys.{soughtKey};
+ghost use Rattle.records.specs.Keys.{meantKey};
 ghost use Rattle.tree.specs.Entering.{newKeyWords, Entered};
 ghost use Rattle.tree.specs.Stored.{Standing};
 ghost use Rattle.tree.specs.Commands.{Does, enters, further, Countable, Modest};
@@ -13,25 +13,25 @@ use crate::laying;
 use crate::needing;
 use crate::refusals;
 use decode::Decoded;
-use records::keys::Sought;
+use records::keys::RawKey;
 use records::siblings;
-use records::siblings::Place;
+use records::siblings::Position;
 use records::store;
 use records::store::KeyWords;
 use records::store::Record;
 use records::store::ValueWords;
 
 // The words of a new key whose text, if it has any, is laid at an offset with a length.
-fn key_words(key: Sought, offset: u32, len: u32) -> KeyWords
+fn key_words(key: RawKey, offset: u32, len: u32) -> KeyWords
     ensures { λ r. ⌜ r ≡ newKeyWords key offset len ⌝ }
 {
     match key {
-        Sought::Int(int) => KeyWords {
+        RawKey::Int(int) => KeyWords {
             kind: store::INT_KEY,
             offset: int,
             len: 0,
         },
-        Sought::String => {
+        RawKey::String => {
             if len == 0 {
                 return KeyWords {
                     kind: store::STRING_KEY,
@@ -48,7 +48,7 @@ fn key_words(key: Sought, offset: u32, len: u32) -> KeyWords
     }
 }
 
-// Enters a new key, whose place is between prev and next among the children of the record: an Uninitialized child. The records are checked
+// Enters a new key, whose position is between prev and next among the children of the record: an Uninitialized child. The records are checked
 // before the text. Without room for both nothing changes.
 fn enter_new(
     words: &mut [u32],
@@ -56,7 +56,7 @@ fn enter_new(
     here: Here,
     prev: u32,
     next: u32,
-    key: Sought,
+    key: RawKey,
     raw: &[u8],
 ) -> Performed
     requires { ⌜ (here .node < recordCount (now words)) × (prev < recordCount (now words)) × (here .bytes ≤ length (now text))
@@ -89,21 +89,21 @@ fn enter_new(
 }
 
 // Enters a key in the map that is needed at the record: the child that has it, or a new one, Uninitialized. An existing key is charged
-// nothing, and found however little text is left. What stands in the text behind what is used is free after a refusal.
-pub fn enter(words: &mut [u32], text: &mut [u8], here: Here, key: Sought, raw: &[u8]) -> Performed
+// nothing, and found however little text is left. After a refusal what the words and the text hold is free.
+pub fn enter(words: &mut [u32], text: &mut [u8], here: Here, key: RawKey, raw: &[u8]) -> Performed
     requires { ⌜ Standing (now words) (now text) here ⌝ ∗ ⌜ Countable here 2 (length (now raw)) ⌝ }
     ensures does { λ r. ⌜ Does (now (words .entry)) (now (text .entry)) (now (words .exit)) (now (text .exit)) here
-        (enters (soughtKey key (now (raw .entry)))) (further (soughtKey key (now (raw .entry)))) r ⌝ }
+        (enters (meantKey key (now (raw .entry)))) (further (meantKey key (now (raw .entry)))) r ⌝ }
     ensures modest { λ r. ⌜ Modest here (length (now (raw .entry))) r ⌝ }
 {
     match needing::expect_map(words, here) {
         Performed::Made(_) => match siblings::find(words, text, here.node, key, raw) {
-            Place::Found(m) => Performed::Made(Here {
+            Position::Found(m) => Performed::Made(Here {
                 records: here.records,
                 bytes: here.bytes,
                 node: m,
             }),
-            Place::Between(prev, next) => enter_new(words, text, here, prev, next, key, raw),
+            Position::Between(prev, next) => enter_new(words, text, here, prev, next, key, raw),
         },
         Performed::Refused(number) => Performed::Refused(number),
     }

@@ -3,13 +3,13 @@ ghost use mathlib.Core.Path.{_≡_};
 ghost use Prim.Native.Nat.{_≤_};
 ghost use lib.ListN.{length};
 ghost use Rattle.decode.specs.Decoding.{decoded};
-ghost use Rattle.records.specs.Keys.{soughtKey};
+ghost use Rattle.records.specs.Keys.{meantKey};
 ghost use Rattle.reading.specs.Adding.{keyText, leafText};
 ghost use Rattle.tree.specs.Leaves.{leafOf};
 ghost use Rattle.tree.specs.Laying.{layAnswer, laid};
 use crate::adding::LeafKind;
 use decode::Decoded;
-use records::keys::Sought;
+use records::keys::RawKey;
 
 // Decodes raw into the free tail of the text. What is used stays, and all of it where the bytes don't fit.
 fn lay(raw: &[u8], text: &mut [u8], used: usize) -> Decoded
@@ -21,14 +21,14 @@ fn lay(raw: &[u8], text: &mut [u8], used: usize) -> Decoded
 }
 
 // Lays the text of a key, which only a String has. What is used stays.
-pub(crate) fn lay_key(key: Sought, raw: &[u8], text: &mut [u8], used: usize) -> Decoded
+pub(crate) fn lay_key(key: RawKey, raw: &[u8], text: &mut [u8], used: usize) -> Decoded
     requires { ⌜ used ≤ length (now text) ⌝ }
-    ensures answer { λ r. ⌜ r ≡ layAnswer (now (text .entry)) used (keyText (soughtKey key (now (raw .entry)))) ⌝ }
-    ensures output { λ _. ⌜ now (text .exit) ≡ laid (now (text .entry)) used (keyText (soughtKey key (now (raw .entry)))) ⌝ }
+    ensures answer { λ r. ⌜ r ≡ layAnswer (now (text .entry)) used (keyText (meantKey key (now (raw .entry)))) ⌝ }
+    ensures output { λ _. ⌜ now (text .exit) ≡ laid (now (text .entry)) used (keyText (meantKey key (now (raw .entry)))) ⌝ }
 {
     match key {
-        Sought::Int(_) => Decoded::Yes(0),
-        Sought::String => lay(raw, text, used),
+        RawKey::Int(_) => Decoded::Yes(0),
+        RawKey::String => lay(raw, text, used),
     }
 }
 

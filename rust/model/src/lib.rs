@@ -483,7 +483,7 @@ fn value(digits: &[u8]) -> Option<u32> {
 }
 
 /// Document 01's decoding.
-pub fn decode(raw: &[u8]) -> Vec<u8> {
+fn decode(raw: &[u8]) -> Vec<u8> {
     let hex = |byte: u8| char::from(byte).to_digit(16);
     let mut decoded = Vec::new();
     let mut rest = raw;

@@ -2,6 +2,7 @@
 #![allow(dead_code)]
 
 pub mod inputs;
+pub mod whatwg;
 
 use std::io::Write;
 
@@ -82,19 +83,20 @@ pub fn times(few: usize) -> usize {
     }
 }
 
-/// Whether the crate itself was built, to compare with. Where it was not, the calling comparison
-/// says that it is left out; in continuous integration (CI is set) it fails instead.
+/// Says that the calling test is left out, and why; in continuous integration (CI is set) it fails instead.
+pub fn leave_out(why: &str) {
+    let ci = std::env::var("CI").is_ok_and(|set| !set.is_empty() && set != "false");
+    assert!(!ci, "{why}");
+    // Not by eprintln!, which the test harness would keep to itself.
+    let _ = writeln!(std::io::stderr(), "LEFT OUT: {why}");
+}
+
+/// Whether the crate itself was built, to compare with. Where it was not, the calling comparison is left out.
 pub fn reference_is_there() -> bool {
     let Some(why) = serde_qs_reference::MISSING else {
         return true;
     };
-    let ci = std::env::var("CI").is_ok_and(|set| !set.is_empty() && set != "false");
-    assert!(!ci, "no comparison with the crate: {why}");
-    // Not by eprintln!, which the test harness would keep to itself.
-    let _ = writeln!(
-        std::io::stderr(),
-        "LEFT OUT, no comparison with the crate: {why}"
-    );
+    leave_out(&format!("no comparison with the crate: {why}"));
     false
 }
 
@@ -107,7 +109,7 @@ fn tree_at(words: &[u32], text: &[u8], number: u32) -> serde_qs_reference::Tree 
     use serde_qs_reference::{Key, Tree};
     let record = |number: u32| &words[number as usize * 8..][..8];
     let part = |offset: u32, length: u32| text[offset as usize..][..length as usize].to_vec();
-    let siblings = || {
+    let children = || {
         let mut numbers = Vec::new();
         let mut next = record(number)[6];
         while next != 0 {
@@ -124,13 +126,13 @@ fn tree_at(words: &[u32], text: &[u8], number: u32) -> serde_qs_reference::Tree 
     match record(number)[0] {
         0 => Tree::Uninitialized,
         1 => Tree::Map(
-            siblings()
+            children()
                 .into_iter()
                 .map(|child| (key(child), tree_at(words, text, child)))
                 .collect(),
         ),
         2 => Tree::Sequence(
-            siblings()
+            children()
                 .into_iter()
                 .map(|child| tree_at(words, text, child))
                 .collect(),

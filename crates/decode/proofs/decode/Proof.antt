@@ -1,6 +1,7 @@
+use Prim.Native.Nat.{ℕ}
 use mathlib.Core.Path.{sym, ap, _∙_}
+use mathlib.Core.Bool.{true}
 use borrow.Author.Tests.{leb-true}
-use Rattle.decode.specs.declared.Decoded.the-variants.{Yes}
 use borrow.Author.Needs.{needs}
 use Rattle.decode.proofs.decode.Statement.{statement}
 use Rattle.decode.proofs.decode.Tie as tie
@@ -17,7 +18,7 @@ same-length c = search needs
 returns : tie.Need-returns
 returns c = let e = sym (c .before .before .before .before .before .fits2 .ensures) ∙
     c .before .before .before .before .if1 .taken in (
-      simp e (ap Yes (c .before .before .write .ensures .0)),
+      simp e (ap (λ (n : ℕ). (true, n)) (c .before .before .write .ensures .0)),
       simp e
           (c .before .before .write .ensures .1),
     )

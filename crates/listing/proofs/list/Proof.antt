@@ -1,18 +1,24 @@
+use mathlib.Core.Path.{_∙_}
 use native.Mathlib.Omega.{arith}
+use borrow.Author.Needs.{needs}
+use lib.ListN.{length}
 use Rattle.listing.specs.Bounded.{boundedListing}
 use Rattle.listing.proofs.Pages.{puts-then}
-use Rattle.listing.proofs.Filled.{all-filled, all-fit, some-cut}
+use Rattle.listing.proofs.Filled.{all-filled, answered}
 use Rattle.listing.proofs.list.Statement.{statement}
 use Rattle.listing.proofs.list.Tie as tie
 
 write-answer-requires : tie.Need-write-answer-requires
-write-answer-requires c κs = tt
+write-answer-requires c κs = search needs
 
 write-values-requires : tie.Need-write-values-requires
-write-values-requires c κs = tt
+write-values-requires c κs = search needs
+
+answer-requires : tie.Need-answer-requires
+answer-requires c κs = search needs
 
 same-length : tie.Need-same-length
-same-length c = omega arith
+same-length c = search needs
 
 returns : tie.Need-returns
 unfolding boundedListing
@@ -20,40 +26,12 @@ returns c =
     let at-write-values = c .before .before .before in
     let at-write-answer = at-write-values .before .before .before .before in
     let p = puts-then (at-write-answer .write-answer .ensures) (at-write-values .write-values .ensures) in (
-      all-fit _ _ _ _ p (omega (
-        arith,
-        c .if1 .taken,
-        at-write-values .write-values .kept .1 .1 .1 .0,
-        at-write-answer .write-answer .kept .1 .1 .1 .1 .0,
-      )),
-      all-filled _ _ _ _ p,
-    )
-
-same-length-2 : tie.Need-same-length-2
-same-length-2 c = omega arith
-
-returns-2 : tie.Need-returns-2
-unfolding boundedListing
-returns-2 c =
-    let at-write-values = c .before .before .before in
-    let at-write-answer = at-write-values .before .before .before .before in
-    let p = puts-then (at-write-answer .write-answer .ensures) (at-write-values .write-values .ensures) in (
-      some-cut _ _ _ _ p (omega (
-        arith,
-        c .if1 .left,
-        at-write-values .write-values .kept .1 .1 .1 .0,
-        at-write-answer .write-answer .kept .1 .1 .1 .1 .0,
-      )),
+      c .answer .ensures ∙ answered _ _ _ _ p (length (at-write-values .write-values .last .1 .1 .1 .0))
+          (omega (arith, at-write-values .write-values .kept .1 .1 .1 .0, at-write-answer .write-answer .kept .1 .1 .1 .1 .0)),
       all-filled _ _ _ _ p,
     )
 
 pub list-spec : {M : Type 1} → statement M
 list-spec =
     tie.close
-    (tie.spec
-    write-answer-requires
-    write-values-requires
-    same-length
-    returns
-    same-length-2
-    returns-2)
+    (tie.spec write-answer-requires write-values-requires answer-requires same-length returns)

@@ -3,7 +3,8 @@ use Prim.Native.Nat.{_<_, _^_}
 use native.Mathlib.Omega.{arith}
 use mir.Syntax.{w64}
 use mir.Facts.{toZ-pos}
-use Rattle.decode.proofs.Loops.{answer-fits}
+use Rattle.decode.specs.Decoding.{answerOf}
+use Rattle.decode.proofs.Loops.{yes-fits}
 use Rattle.qs.specs.Numbers.{lengthOrNo}
 use borrow.Author.Needs.{needs}
 use Rattle.qs.proofs.qs_decode.Statement.{statement}
@@ -21,7 +22,7 @@ small c =
     let at-decode = c .before .before .before .before .before in
     let at-here = at-decode .before .before .before .before in
     let s = at-here in let n = c .before .n .given in omega
-    (arith, s .good .1 .0 .1, answer-fits (s .args .raw .now) (s .args .out .now) (n .0 .0) (sym (at-decode .decode .ensures .0) ∙ n .1))
+    (arith, s .good .1 .0 .1, yes-fits (s .args .raw .now) (s .args .out .now) (n .0 .0) (ap answerOf (sym (n .1)) ∙ at-decode .decode .ensures .0))
 
 cast-result : tie.Need-cast-result
 cast-result c = record { sfits = small c }
@@ -35,7 +36,7 @@ same-length c = search needs
 returns : tie.Need-returns
 returns c =
     let at-decode = c .before .before .before .before .before in
-    let d = at-decode .decode .ensures in (toZ-pos w64 (small c) ∙ ap lengthOrNo (sym (c .before .n .given .1) ∙ d .0), d .1)
+    let d = at-decode .decode .ensures in (toZ-pos w64 (small c) ∙ ap lengthOrNo (ap answerOf (sym (c .before .n .given .1)) ∙ d .0), d .1)
 
 same-length-2 : tie.Need-same-length-2
 same-length-2 c = search needs
@@ -43,7 +44,7 @@ same-length-2 c = search needs
 returns-2 : tie.Need-returns-2
 returns-2 c =
     let at-decode = c .before .before .before .before in
-    let d = at-decode .decode .ensures in (ap lengthOrNo (sym (c .enum-told .given .1) ∙ d .0), d .1)
+    let d = at-decode .decode .ensures in (ap lengthOrNo (ap answerOf (sym (c .enum-told .given .1)) ∙ d .0), d .1)
 
 pub qs-decode-spec : {M : Type 1} → statement M
 qs-decode-spec =

@@ -1,4 +1,3 @@
--- `is_utf8` meets its contract: it runs the test, and the test decides the grammar. The measure is what is left of the bytes.
 use borrow.Author.Needs.{needs}
 use native.Mathlib.Omega.{arith}
 use Prim.Native.Nat.{_-_}

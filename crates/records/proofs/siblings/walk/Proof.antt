@@ -3,14 +3,14 @@ use native.Mathlib.Omega.{arith}
 use borrow.Author.Needs.{needs}
 use lib.ListN.{length}
 use Rattle.records.specs.Store.{recordCount}
-use Rattle.records.specs.Keys.{soughtKey}
+use Rattle.records.specs.Keys.{meantKey}
 use Rattle.records.specs.Siblings.{chain, standing}
 use Rattle.records.proofs.Chains.{Walking, walking-on, walking-found, walking-past, walking-end, is-record, chain-falls}
 use Rattle.records.proofs.siblings.walk.Statement.{statement}
 use Rattle.records.proofs.siblings.walk.Tie as tie
 
 abbrev Inv-loop : tie.InvT-loop
-Inv-loop words text before first key raw prev₀ cur₀ prev cur = Walking (standing words text (soughtKey key raw)) words before first prev cur
+Inv-loop words text before first key raw prev₀ cur₀ prev cur = Walking (standing words text (meantKey key raw)) words before first prev cur
 
 abbrev μ-loop : tie.MeasureT-loop
 μ-loop words text before first key raw prev₀ cur₀ prev cur = length (chain words (recordCount words) cur)

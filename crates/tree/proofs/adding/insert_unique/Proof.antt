@@ -1,6 +1,6 @@
 use lib.ListN.{length}
 use native.Mathlib.Omega.{arith}
-use Rattle.records.specs.Keys.{soughtKey}
+use Rattle.records.specs.Keys.{meantKey}
 use Rattle.tree.specs.Leaves.{leafOf}
 use Rattle.tree.specs.Commands.{enters, appends, inserts, further}
 use Rattle.tree.proofs.Composed.{insert-composed}
@@ -21,7 +21,7 @@ append-value-requires c κs =
     let at-there = c .before .before .before in
     let at-enter = at-there .before .before .before .before .before .before in
     let start = at-enter .before .before .before .before .before .before .before in
-    let key = soughtKey (start .args .key) (start .args .raw .now) in
+    let key = meantKey (start .args .key) (start .args .raw .now) in
     let m = made-modest (start .args .here) (length (start .args .raw .now)) (at-enter .enter .ensures .1) (at-there .there .given .1) in (
       then-standing (enters key) (further key) (at-enter .enter .ensures .0) (start .pre .0) (at-there .there .given .1),
       (omega (arith, m .0, start .pre .1 .0), omega (arith, m .1, start .pre .1 .1)),
@@ -42,7 +42,7 @@ returns c =
     let at-there = at-append-value .before .before .before .before in
     let at-enter = at-there .before .before .before .before .before .before in
     let start = at-enter .before .before .before .before .before .before .before in
-    let key = soughtKey (start .args .key) (start .args .raw .now) in
+    let key = meantKey (start .args .key) (start .args .raw .now) in
     let x = leafOf (start .args .kind) (start .args .value .now) in
     goes-on (enters key) (further key) (at-enter .enter .ensures .0) (appends x) (inserts key x) (λ lent. insert-composed lent key x)
     (at-there .there .given .1) (at-append-value .append-value .ensures)
@@ -58,7 +58,7 @@ returns-2 c =
     let at-number = c .before in
     let at-enter = at-number .before .before .before .before .before .before in
     let start = at-enter .before .before .before .before .before .before .before in
-    let key = soughtKey (start .args .key) (start .args .raw .now) in
+    let key = meantKey (start .args .key) (start .args .raw .now) in
     let x = leafOf (start .args .kind) (start .args .value .now) in
     stops (enters key) (further key) (at-enter .enter .ensures .0) (λ lent path. appends x lent (further key path)) (inserts key x)
     (λ lent. insert-composed lent key x) (further key) (at-number .number .given .1)

@@ -1,5 +1,5 @@
 use native.Mathlib.Omega.{arith}
-use Rattle.records.specs.Keys.{soughtKey}
+use Rattle.records.specs.Keys.{meantKey}
 use Rattle.reading.specs.Adding.{enterKey, atPath}
 use Rattle.tree.specs.Commands.{needsMap, enters, stays, further}
 use Rattle.tree.proofs.Composed.{enter-composed}
@@ -42,7 +42,7 @@ enter-new-requires c κs =
     let start = at-expect-map .before .before .before .before .before in
     let stands = then-standing needsMap stays (at-expect-map .expect-map .ensures .1 (start .args .text .now)) (start .pre .0) (at-enum-told .enum-told .given .1) in (
       omega (arith, stand-low (start .pre .0), at-expect-map .expect-map .kept .0),
-      prev-inside (soughtKey (start .args .key) (start .args .raw .now)) (stand-formed stands)
+      prev-inside (meantKey (start .args .key) (start .args .raw .now)) (stand-formed stands)
           (omega (arith, stand-low (start .pre .0), at-expect-map .expect-map .kept .0)) (at-find .find .ensures) (at-prev .prev .given .1),
       stand-end (start .pre .0),
       start .pre .1,
@@ -96,7 +96,7 @@ returns-3 c =
     let at-number = c .before in
     let at-expect-map = at-number .before .before .before .before in
     let start = at-expect-map .before .before .before .before .before in
-    let key = soughtKey (start .args .key) (start .args .raw .now) in (
+    let key = meantKey (start .args .key) (start .args .raw .now) in (
       stops needsMap stays (at-expect-map .expect-map .ensures .1 (start .args .text .now)) (λ lent path. atPath path (enterKey lent key)) (enters key)
           (λ lent. enter-composed lent key) (further key) (at-number .number .given .1),
       tt,

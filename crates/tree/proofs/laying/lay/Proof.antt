@@ -27,7 +27,8 @@ returns c =
     let at-decode = c .before .before in
     let start = at-decode .before .before .before .before in
     let tail = mid-tail (start .args .used) (start .args .text .now) in (
-      rw tail at (at-decode .decode .ensures .0) ∙ decode-answer (start .args .text .now) (start .args .raw .now) (start .args .used) (start .pre),
+      decode-answer (start .args .text .now) (start .args .raw .now) (start .args .used) (start .pre) (at-decode .decode .result)
+          (rw tail at (at-decode .decode .ensures .0)),
       put-tail (start .args .used) (start .args .text .now) (at-decode .decode .last .1 .0)
           ∙ ap (λ l. take (start .args .used) (start .args .text .now) ++ l) (rw tail at (at-decode .decode .ensures .1))
           ∙ decode-laid (start .args .text .now) (start .args .raw .now) (start .args .used) (start .pre),

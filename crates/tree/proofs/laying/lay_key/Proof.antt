@@ -1,4 +1,4 @@
-use Rattle.records.specs.Keys.{soughtKey}
+use Rattle.records.specs.Keys.{meantKey}
 use Rattle.tree.proofs.Lays.{none-answer, none-laid}
 use borrow.Author.Needs.{needs}
 use Rattle.tree.proofs.laying.lay_key.Statement.{statement}
@@ -14,7 +14,7 @@ lay-requires : tie.Need-lay-requires
 lay-requires c κs = search needs
 
 returns : tie.Need-returns
-unfolding soughtKey
+unfolding meantKey
 returns c =
     let start = c .before .before .before .before in
     rw (c .enum-told .given .1)
@@ -24,7 +24,7 @@ same-length : tie.Need-same-length
 same-length c = search needs
 
 returns-2 : tie.Need-returns-2
-unfolding soughtKey
+unfolding meantKey
 returns-2 c =
     let at-lay = c .before .before in
     let at-enum-told2 = at-lay .before .before in

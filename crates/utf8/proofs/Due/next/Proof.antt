@@ -1,4 +1,3 @@
--- `Due::next` meets its contract: each arm is a law of the byte's range.
 use mathlib.Core.Path.{sym, _∙_}
 use native.Mathlib.Omega.{arith}
 use borrow.Author.Needs.{needs}

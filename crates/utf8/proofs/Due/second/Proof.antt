@@ -1,4 +1,3 @@
--- `Due::second` meets its contract: at each of the four bytes the definition computes.
 use mathlib.Core.Path.{sym, _∙_}
 use native.Mathlib.Omega.{arith}
 use borrow.Author.Needs.{needs}
