@@ -541,6 +541,12 @@ fn a_struct_takes_an_int_key_for_a_name() {
     }
 }
 
+/// Neither a text nor a list is had through a struct.
+fn assert_struct_refuses(input: &[u8], name: &str, why: &str) {
+    let refused = (Err(why.to_owned()), Err(why.to_owned()));
+    assert_eq!(struct_reads(input, name), refused);
+}
+
 /// Beside the String key `1` a struct meets the Int key 1 as the same name again.
 #[test]
 fn a_struct_refuses_an_int_key_beside_its_name() {
@@ -548,11 +554,7 @@ fn a_struct_refuses_an_int_key_beside_its_name() {
         return;
     }
     assert_eq!(read(b"1&%31", b"1", TakeLast), (Ok(vec![]), Ok(vec![])));
-    let refusal = "duplicate field `1`".to_owned();
-    assert_eq!(
-        struct_reads(b"1&%31", "1"),
-        (Err(refusal.clone()), Err(refusal))
-    );
+    assert_struct_refuses(b"1&%31", "1", "duplicate field `1`");
 }
 
 /// A struct reads every key, so that one which isn't UTF-8 fails it.
@@ -562,10 +564,10 @@ fn a_struct_refuses_another_key_that_is_not_utf8() {
         return;
     }
     assert_eq!(read(b"a&%ff", b"a", TakeLast), (Ok(vec![]), Ok(vec![])));
-    let refusal = "invalid utf-8 sequence of 1 bytes from index 0".to_owned();
-    assert_eq!(
-        struct_reads(b"a&%ff", "a"),
-        (Err(refusal.clone()), Err(refusal))
+    assert_struct_refuses(
+        b"a&%ff",
+        "a",
+        "invalid utf-8 sequence of 1 bytes from index 0",
     );
 }
 
@@ -579,11 +581,7 @@ fn a_struct_refuses_a_string_root() {
         read(b"=x", b"", TakeLast),
         (Ok(b"x".to_vec()), Ok(vec![b"x".to_vec()]))
     );
-    let refusal = "invalid type: string \"x\", expected struct".to_owned();
-    assert_eq!(
-        struct_reads(b"=x", ""),
-        (Err(refusal.clone()), Err(refusal))
-    );
+    assert_struct_refuses(b"=x", "", "invalid type: string \"x\", expected struct");
 }
 
 /// What a derived struct gets for its field, as a text and as a list.

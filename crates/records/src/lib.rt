@@ -2,7 +2,8 @@
 // lent slice of u32, its key's bytes lie in a lent slice of text, and a `&mut ParsedValue` is a record's number.
 // Each function equals a total function on the list of words (specs/). That the words hold a forest of records is specs/Holds, which
 // proofs/ carry over each of those functions.
-// Below it stand the record's width (config), decoding (decode), the keys and their order (key), and laws.
+// Below it stand the words of a record in the definitions (reading), the record's width (config), decoding (decode), the keys and their order (key),
+// and laws.
 pub mod adding; // a value added at a record
 pub mod clearing; // slices made zero
 pub mod keys; // keys compared
