@@ -54,9 +54,9 @@ fn rows_of_the_table() {
             Ok(map(&[("a", Sequence(vec![NoValue, NoValue]))])),
         ),
         (
-            "[a]&=",
-            &[("[a]", ""), ("", "")],
-            Ok(map(&[("", Null), ("a", NoValue)])),
+            "a[b]&a",
+            &[("a[b]", ""), ("a", "")],
+            Ok(map(&[("a", map(&[("", NoValue), ("b", NoValue)]))])),
         ),
         (
             "b&a",
@@ -86,15 +86,16 @@ fn rows_of_the_table_with_other_settings() {
         form: true,
         ..Config::default()
     };
-    assert_eq!(pairs(b"%5B%5D"), [(b"[]".to_vec(), vec![])]);
+    assert_eq!(pairs(b"%5B"), [(b"[".to_vec(), vec![])]);
+    assert_eq!(read(form, b"%5B"), Err((4, 4)));
     assert_eq!(read(form, b"%5B%5D"), Ok(Tree::Sequence(vec![NoValue])));
     let shallow = Config {
         depth: 1,
         ..Config::default()
     };
-    assert_eq!(pairs(b"[a][b]"), [(b"[a][b]".to_vec(), vec![])]);
-    let below = map(&[("a", map(&[("[b]", NoValue)]))]);
-    assert_eq!(read(shallow, b"[a][b]"), Ok(below));
+    assert_eq!(pairs(b"[a][b"), [(b"[a][b".to_vec(), vec![])]);
+    let below = map(&[("a", map(&[("[b", NoValue)]))]);
+    assert_eq!(read(shallow, b"[a][b"), Ok(below));
     let deep = Config {
         depth: 65,
         ..Config::default()
@@ -112,7 +113,10 @@ fn has_a_row(input: &[u8]) -> bool {
         || raw_pairs(input).any(|(name, value)| {
             swallows_a_mark(name) || swallows_a_mark(value.unwrap_or_default())
         })
-        || names.iter().any(|name| name.iter().all(u8::is_ascii_digit))
+        || names.first().is_some_and(|name| name.is_empty())
+        || names
+            .iter()
+            .any(|name| !name.is_empty() && name.iter().all(u8::is_ascii_digit))
         || (1..decoded.len()).any(|place| decoded[..place].contains(&decoded[place]))
 }
 

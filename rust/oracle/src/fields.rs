@@ -119,7 +119,7 @@ fn in_struct<'de, S: DeserializeSeed<'de> + Copy>(
         .map_err(|error| error.to_string())
 }
 
-/// The visitor that `derive(Deserialize)` writes for a struct of one field.
+/// The visitor that `derive(Deserialize)` writes for a struct of one field; here it is written by hand.
 struct Derived<S> {
     seed: S,
     name: &'static str,
