@@ -3,9 +3,11 @@
 //!
 //! They are looked for in the folder that SERDE_QS_SRC names by an absolute path, else in
 //! `shared/docs/src` beside the checkout; either has the crate's `src` in it. Where they are missing
-//! the build goes on, with `cfg(serde_qs_sources)` unset.
+//! the build goes on, with `cfg(serde_qs_sources)` unset. Where they are others than SHA256SUMS has,
+//! it fails: a comparison with them would say nothing about serde_qs 1.1.3.
 
 use std::path::{Path, PathBuf};
+use std::process::{exit, Command};
 use std::{env, fs};
 
 /// The six files, each with the places in OUT_DIR that get a copy. `exposed` holds a second
@@ -62,6 +64,7 @@ fn main() {
     if sources.join("de/parse.rs").is_file() {
         println!("cargo:rerun-if-changed={}", sources.display());
         println!("cargo:rustc-cfg=serde_qs_sources");
+        check(&sources);
         copy(&sources, &out);
     } else {
         // A file that never is: cargo looks again at every build. It goes by times, and would take
@@ -85,6 +88,27 @@ fn folder() -> PathBuf {
 
 fn variable(name: &str) -> String {
     env::var(name).unwrap_or_else(|_| panic!("cargo sets {name}"))
+}
+
+/// Ends the build where the six files and `lib.rs` aren't those that SHA256SUMS has.
+fn check(sources: &Path) {
+    let sums = Path::new(&variable("CARGO_MANIFEST_DIR")).join("SHA256SUMS");
+    println!("cargo:rerun-if-changed={}", sums.display());
+    let check = Command::new("sha256sum")
+        .args(["--check", "--strict", "--quiet"])
+        .arg(&sums)
+        .current_dir(sources)
+        .output()
+        .unwrap_or_else(|e| panic!("sha256sum can't be run: {e}"));
+    if !check.status.success() {
+        let said = [check.stdout, check.stderr].concat();
+        let said = String::from_utf8_lossy(&said);
+        eprintln!(
+            "the sources in {} are not serde_qs 1.1.3's:\n{said}",
+            sources.display()
+        );
+        exit(1);
+    }
 }
 
 /// Lays the six files and `modules.rs`, which names them, into `out`.

@@ -2,49 +2,24 @@
 
 mod common;
 
-use common::{leave_out, tree};
+use common::{programs, tree};
 use model::{read, Config, WIDTH};
 use serde_qs_reference::{Key, Tree};
 use std::collections::BTreeMap;
 use std::fmt::Write as _;
-use std::io::Write as _;
 use std::path::{Path, PathBuf};
-use std::process::{Command, Stdio};
 
 /// What the program lends.
 const RECORDS: usize = 2_000;
 const BYTES: usize = 65_535;
 
-/// The program, which `rt ci` and `rt check list` build. Where it is missing, the calling test is left out.
 fn program() -> Option<PathBuf> {
-    let path = Path::new(env!("CARGO_MANIFEST_DIR")).join("../target/bin/list");
-    if path.is_file() {
-        return Some(path);
-    }
-    leave_out(&format!(
-        "{} is missing: run `rt check list`",
-        path.display()
-    ));
-    None
+    programs::built("list")
 }
 
 /// What the program prints for an input.
 fn print(program: &Path, input: &[u8]) -> String {
-    let mut child = Command::new(program)
-        .stdin(Stdio::piped())
-        .stdout(Stdio::piped())
-        .stderr(Stdio::piped())
-        .spawn()
-        .expect("the listing program starts");
-    let mut stdin = child.stdin.take().expect("it is piped");
-    let output = std::thread::scope(|scope| {
-        // The program stops reading where the input is too long, so that writing may fail.
-        scope.spawn(move || drop(stdin.write_all(input)));
-        child.wait_with_output().expect("the listing program ends")
-    });
-    assert_eq!(output.status.code(), Some(0));
-    assert_eq!(output.stderr, b"");
-    String::from_utf8(output.stdout).expect("listings are ASCII")
+    String::from_utf8(programs::print(program, input)).expect("listings are ASCII")
 }
 
 fn input(depth: u32, form: bool, query: &[u8]) -> Vec<u8> {

@@ -3,7 +3,7 @@
 
 mod common;
 
-use common::whatwg::{decoded as whatwg, swallows_a_mark};
+use common::whatwg::{decoded as whatwg, pairs, swallows_a_mark};
 use common::{every_string, Random, KINDS};
 
 fn decoded(raw: &[u8]) -> Vec<u8> {
@@ -11,6 +11,13 @@ fn decoded(raw: &[u8]) -> Vec<u8> {
     let length = qs::decode(raw, &mut out).expect("decoded bytes are no more than raw ones");
     out.truncate(length);
     out
+}
+
+/// A raw name is the bytes meant by the standard, and its whole parser gives them once what isn't UTF-8 is replaced.
+fn means_by_the_standard(raw: &str, meant: &[u8]) {
+    let shown = String::from_utf8_lossy(meant).into_owned();
+    assert_eq!(whatwg(raw.as_bytes()), meant, "{raw}, by the standard");
+    assert_eq!(pairs(raw.as_bytes()), [(shown, String::new())], "{raw}");
 }
 
 #[test]
@@ -34,7 +41,7 @@ fn examples_on_which_both_agree() {
         ("a+b%20c%2bd", b"a b c+d"),
     ];
     for (raw, meant) in examples {
-        assert_eq!(whatwg(raw.as_bytes()), meant, "{raw}, by the standard");
+        means_by_the_standard(raw, meant);
         assert_eq!(decoded(raw.as_bytes()), meant, "{raw}, by the library");
     }
     println!("{} examples on which both agree", examples.len());
@@ -53,11 +60,7 @@ fn examples_on_which_document_01_departs() {
         ("%2%2af%2a", "%2*f*", "%2%2af*"),
     ];
     for (raw, standard, document) in examples {
-        assert_eq!(
-            whatwg(raw.as_bytes()),
-            standard.as_bytes(),
-            "{raw}, by the standard"
-        );
+        means_by_the_standard(raw, standard.as_bytes());
         assert_eq!(
             decoded(raw.as_bytes()),
             document.as_bytes(),

@@ -1,5 +1,6 @@
 -- Document 01, 'Settings and the lent buffers': the limits and the width of a record, each named once.
--- The code has the limits as constants of `Config`, the width as one of crate records' module store.
+-- The code has the limits as constants of `Config`, read by `is_too_deep` and `is_too_long` alone.
+-- It has the width as a constant of crate records' module store.
 use Prim.Native.Nat.{ℕ}
 
 -- "Depth 0 to 64"

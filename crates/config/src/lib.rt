@@ -2,10 +2,12 @@
 // Definitions and contracts take this very struct as their settings record.
 // Nothing stands below it.
 ghost use mathlib.Core.Path.{_≡_};
+ghost use lib.Dec.{ltb};
 ghost use Rattle.config.specs.Defaults.{defaults};
+ghost use Rattle.config.specs.Limits.{maxDepth, maxLen};
 
-// How deep brackets nest (`max_depth` in the source), and the form flag, under which `%5B` and `%5D` are taken as brackets
-// (`use_form_encoding`).
+// How deep brackets nest (`max_depth` in the source), and the form flag, under which `%5B` and `%5D` are taken as
+// brackets (`use_form_encoding`).
 pub struct Config {
     pub depth: usize,
     pub form: bool,
@@ -26,5 +28,19 @@ impl Config {
             depth: 5,
             form: false,
         }
+    }
+
+    // Whether the depth is refused.
+    pub fn is_too_deep(self) -> bool
+        ensures { λ r. ⌜ r ≡ ltb maxDepth (self .depth) ⌝ }
+    {
+        Config::MAX_DEPTH < self.depth
+    }
+
+    // Whether an input of so many bytes is refused, whatever the settings.
+    pub fn is_too_long(len: usize) -> bool
+        ensures { λ r. ⌜ r ≡ ltb maxLen len ⌝ }
+    {
+        Config::MAX_LEN < len
     }
 }

@@ -2,7 +2,7 @@
 use Prim.Native.Nat.{ℕ, _+_, _<_, _≤_}
 use mathlib.Core.Path.{_≡_, refl, ap, sym, _∙_, subst}
 use mathlib.Core.Logic.{_≢_}
-use mathlib.Core.Bool.{cond}
+use mathlib.Core.Bool.{false, cond}
 use mathlib.Core.List.{List}
 use native.Mathlib.Omega.{arith}
 use lib.Dec.{leb}
@@ -20,15 +20,18 @@ use Rattle.records.specs.Store.{recordCount}
 use Rattle.records.proofs.Forests.{indicator-same}
 use Rattle.de.specs.declared.DuplicateKeyBehavior.{DuplicateKeyBehavior}
 use Rattle.de.specs.declared.FieldRead.{FieldRead}
+use Rattle.de.specs.declared.refusals.Refusal.{Refusal}
+use Rattle.de.specs.declared.refusals.Refusal.the-variants.{WrongRoot, NoSuchField, WrongKind, SeveralValues, MissingIndex, NotUtf8, ShortSlice}
 use Rattle.de.specs.declared.text.TextRead.{TextRead}
 use Rattle.de.specs.declared.list.ListRead.{ListRead}
 use Rattle.parse.specs.declared.Parsed.{Parsed}
 use Rattle.parse.specs.declared.Parsed.the-variants.{Accepted, Refused}
 use Rattle.parse.specs.Outcomes.{outcomeOf}
+use Rattle.de.specs.Refusals.{code}
 use Rattle.de.specs.Fields.{rootField}
 use Rattle.de.specs.Lists.{Listed}
 use Rattle.de.specs.Reads.{TextOutcome, ListOutcome, textAnswer, textOfField, textAfter, textRead, listAnswer, listWords, listOfField, listAfter, listRead}
-use Rattle.de.specs.OnRecords.{Readable, fieldAt, fieldTextAt, fieldListAt, elementCount, listReadAnswer, Leaves, wrote, cleared}
+use Rattle.de.specs.OnRecords.{Readable, fieldAt, fieldTextAt, fieldListAt, elementCount, listReadAnswer, Writes, wrote, stopped}
 use Rattle.de.proofs.Stored.{left, filled, stores, readable, some-record}
 use Rattle.de.proofs.Agree.{At, field-agrees, field-text, field-list}
 use Rattle.de.proofs.Few.{FewElements, few}
@@ -50,6 +53,16 @@ module _ (words text : List ℕ) {v : Value} {n : ℕ} {t : List ℕ} (s : Sound
         no-root = omega (arith, h .once 0 (s .risen .some), indicator-same 0);
         small = omega (arith, h .sized, h .room);
       }
+
+-- Refusals 16 to 22 come after 3, under which a list keeps what it held.
+late : (x : Refusal) → leb (code x) 3 ≡ false
+late WrongRoot = refl
+late NoSuchField = refl
+late WrongKind = refl
+late SeveralValues = refl
+late MissingIndex = refl
+late NotUtf8 = refl
+late ShortSlice = refl
 
 -- The buffers of an accepted outcome.
 module _ (words text : List ℕ) {W X : List ℕ} {o : Outcome} {records bytes : ℕ}
@@ -75,27 +88,29 @@ module _ (words text : List ℕ) {W X : List ℕ} {o : Outcome} {records bytes :
       rw e (ap (λ (y : TextRead). record { answer = textAnswer records bytes y; words = W; text = X }) (field-text d (field-agrees name v (at-root k))))
 
   element-count : (d : DuplicateKeyBehavior) (name : List ℕ) (size : ℕ) {l : List ℕ} {r : ListRead} {a : Answer} → Accepts (Read words text o) a
-      → Leaves size l (fieldListAt d W X size (fieldAt W X name)) r → elementCount r ≤ records
+      → Writes size l (fieldListAt d W X size (fieldAt W X name)) r → elementCount r ≤ records
   element-count d name size {l} {r} (accepts {tree = v} {used = n} {text = t} k) h =
       go (few d size name v (omega (arith, stores words text v n t (k .0) .holds .sized, ap (λ (y : Outcome). y .records) (sym (k .1) ∙ e))))
-      (subst (λ (y : Listed). Leaves size l y r) (field-list d size (field-agrees name v (at-root k))) h)
+      (subst (λ (y : Listed). Writes size l y r) (field-list d size (field-agrees name v (at-root k))) h)
     where
-      go : {whole : Listed} {q : ListRead} → FewElements records whole → Leaves size l whole q → elementCount q ≤ records
+      go : {whole : Listed} {q : ListRead} → FewElements records whole → Writes size l whole q → elementCount q ≤ records
       go f (wrote z) = f
-      go f (cleared z) = omega arith
+      go f (stopped z) = omega arith
 
-  list-read : (d : DuplicateKeyBehavior) (name list l : List ℕ) {r : ListRead} {a : Answer} → Accepts (Read words text o) a
-      → Leaves (length list) l (fieldListAt d W X (length list) (fieldAt W X name)) r
-      → _≡_ {A = ListOutcome} (record { read = record { answer = listReadAnswer records bytes r; words = W; text = X }; list = l })
+  list-read : (d : DuplicateKeyBehavior) (name list l l′ : List ℕ) {r : ListRead} {a : Answer} → Accepts (Read words text o) a
+      → Writes (length list) l (fieldListAt d W X (length list) (fieldAt W X name)) r
+      → l′ ≡ cond (leb (listReadAnswer records bytes r .number) 3) l (replicate (length l) 0)
+      → _≡_ {A = ListOutcome} (record { read = record { answer = listReadAnswer records bytes r; words = W; text = X }; list = l′ })
       (listAfter o list a (λ tree. listOfField d (length list) (rootField name tree)))
-  list-read d name list l {r} (accepts {tree = v} k) h =
-      rw e (go (subst (λ (y : Listed). Leaves (length list) l y r) (field-list d (length list) (field-agrees name v (at-root k))) h))
+  list-read d name list l l′ {r} (accepts {tree = v} k) h g =
+      rw e (go (subst (λ (y : Listed). Writes (length list) l y r) (field-list d (length list) (field-agrees name v (at-root k))) h) g)
     where
-      go : {whole : Listed} {q : ListRead} → Leaves (length list) l whole q
-          → _≡_ {A = ListOutcome} (record { read = record { answer = listReadAnswer records bytes q; words = W; text = X }; list = l })
+      go : {whole : Listed} {q : ListRead} → Writes (length list) l whole q
+          → l′ ≡ cond (leb (listReadAnswer records bytes q .number) 3) l (replicate (length l) 0)
+          → _≡_ {A = ListOutcome} (record { read = record { answer = listReadAnswer records bytes q; words = W; text = X }; list = l′ })
           (record { read = record { answer = listAnswer records bytes whole; words = W; text = X }; list = listWords (length list) whole })
-      go (wrote z) = rw z
-      go (cleared z) = rw z
+      go (wrote z) g = rw (g, z)
+      go (stopped {x = x} z) g = rw (g, late x, z)
 
 -- The four ends of the public calls, by parse's answer.
 module _ (config : Config) (input words text W X : List ℕ) {p : Parsed} (e : outcomeOf p W X ≡ reading config input words text) where
@@ -110,7 +125,7 @@ module _ (config : Config) (input words text W X : List ℕ) {p : Parsed} (e : o
     readable-after = can-read words text o-is reads
 
     pub few-listed : (d : DuplicateKeyBehavior) (name : List ℕ) (size : ℕ) {l : List ℕ} {r : ListRead}
-        → Leaves size l (fieldListAt d W X size (fieldAt W X name)) r → elementCount r ≤ records
+        → Writes size l (fieldListAt d W X size (fieldAt W X name)) r → elementCount r ≤ records
     few-listed d name size g = element-count words text o-is d name size reads g
 
     pub text-accepted : (d : DuplicateKeyBehavior) (name : List ℕ) {a : FieldRead} {r : TextRead} → a ≡ textAnswer records bytes r
@@ -119,11 +134,11 @@ module _ (config : Config) (input words text W X : List ℕ) {p : Parsed} (e : o
     unfolding textRead
     text-accepted d name f g = rw (f, g) (text-read words text o-is d name reads)
 
-    pub list-accepted : (d : DuplicateKeyBehavior) (name list l : List ℕ) {a : FieldRead} {r : ListRead} → a ≡ listReadAnswer records bytes r
-        → Leaves (length list) l (fieldListAt d W X (length list) (fieldAt W X name)) r
-        → _≡_ {A = ListOutcome} (record { read = record { answer = a; words = W; text = X }; list = l }) (listRead config d input name words text list)
+    pub list-accepted : (d : DuplicateKeyBehavior) (name list l l′ : List ℕ) {a : FieldRead} {r : ListRead} → a ≡ listReadAnswer records bytes r
+        → Writes (length list) l (fieldListAt d W X (length list) (fieldAt W X name)) r → l′ ≡ cond (leb (a .number) 3) l (replicate (length l) 0)
+        → _≡_ {A = ListOutcome} (record { read = record { answer = a; words = W; text = X }; list = l′ }) (listRead config d input name words text list)
     unfolding listRead
-    list-accepted d name list l f g = rw f (list-read words text o-is d name list l reads g)
+    list-accepted d name list l l′ f g k = rw f (list-read words text o-is d name list l l′ reads g (rw f at k))
 
   module _ {number place : ℕ} (h : p ≡ Refused number place) where
     r-is : reading config input words text ≡ record { number = number; place = place; records = 0; bytes = 0; words = W; text = X }

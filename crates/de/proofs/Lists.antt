@@ -22,7 +22,7 @@ use Rattle.de.specs.declared.text.TextRead.the-variants.{Text, Refused}
 use Rattle.de.specs.declared.list.ListRead.{ListRead}
 use Rattle.de.specs.declared.list.ListRead.the-variants.{Elements, Refused as RefusedList}
 use Rattle.de.specs.Lists.{Listed, listed, refused, prepend}
-use Rattle.de.specs.OnRecords.{singleTextAt, intKeysAt, elementAt, inTurnAt, elementsAt, oneAt, listAt, fieldListAt, Writes, wrote, stopped, Leaves, cleared}
+use Rattle.de.specs.OnRecords.{singleTextAt, intKeysAt, elementAt, inTurnAt, elementsAt, oneAt, listAt, fieldListAt, Writes, wrote, stopped}
 use Rattle.de.proofs.Comparisons.{same-word, other-word}
 use Rattle.de.proofs.Siblings.{Along, along-here, along-next, along-end}
 
@@ -193,22 +193,6 @@ module _ (d : DuplicateKeyBehavior) (ws text : List ℕ) (n size : ℕ) {l : Lis
   unfolding elementsAt
   children-read h w = rw (le-ltb size (2 * length (children ws n)) h) w
 
--- What is written, and what is cleared after a refusal.
-pub leaves-written : {size count : ℕ} {l : List ℕ} {whole : Listed} {r : ListRead} → r ≡ Elements count → Writes size l whole r
-    → Leaves size l whole (Elements count)
-leaves-written {size} {count} {l} e (wrote {count = k} {words = words} q) =
-    let f : k ≡ count = cc in
-    subst (λ (y : ℕ). Leaves size l (listed k words) (Elements y)) f (Leaves.wrote q)
-leaves-written e (stopped q) = absurd (let z : _≡_ {A = ℕ} 0 1 = cc in omega arith)
-
-pub leaves-cleared : {size : ℕ} {l l′ : List ℕ} {whole : Listed} {r : ListRead} {x : Refusal} → r ≡ RefusedList x
-    → Writes size l whole r → l′ ≡ replicate (length l) 0
-    → Leaves size l′ whole (RefusedList x)
-leaves-cleared e (wrote q) z = absurd (let z : _≡_ {A = ℕ} 0 1 = cc in omega arith)
-leaves-cleared {size} {l} {l′} {whole} {r} {x} e (stopped {x = y} q) z =
-    let f : y ≡ x = cc in
-    subst (λ (w : Refusal). Leaves size l′ (refused y) (RefusedList w)) f (cleared (z ∙ ap (λ (k : ℕ). replicate k 0) q))
-
 -- The list of the field, in a slice that was cleared.
 pub zero-list : (l₀ : List ℕ) {l : List ℕ} → l ≡ replicate (length l₀) 0 → l ≡ replicate (length l) 0
 zero-list l₀ {l} e = e ∙ ap (λ (k : ℕ). replicate k 0) (sym (ap length e ∙ length-replicate (length l₀) 0))
@@ -217,10 +201,10 @@ pub none-written : {l : List ℕ} → l ≡ replicate (length l) 0 → Writes (l
 none-written {l} e = let k : length l - 0 ≡ length l = omega arith in wrote {words = []} (rw k e)
 
 module _ (d : DuplicateKeyBehavior) (ws text l₀ : List ℕ) {l₁ : List ℕ} {f : FieldAt} (z : l₁ ≡ replicate (length l₀) 0) where
-  pub field-found : {n : ℕ} {l : List ℕ} {r : ListRead} → f ≡ Record n → Leaves (length l₁) l (listAt d ws text (length l₁) n) r
-      → Leaves (length l₀) l (fieldListAt d ws text (length l₀) f) r
+  pub field-found : {n : ℕ} {l : List ℕ} {r : ListRead} → f ≡ Record n → Writes (length l₁) l (listAt d ws text (length l₁) n) r
+      → Writes (length l₀) l (fieldListAt d ws text (length l₀) f) r
   field-found {n} {l} {r} e h =
-      rw e (subst (λ (k : ℕ). Leaves k l (listAt d ws text k n) r) (ap length z ∙ length-replicate (length l₀) 0) h)
+      rw e (subst (λ (k : ℕ). Writes k l (listAt d ws text k n) r) (ap length z ∙ length-replicate (length l₀) 0) h)
 
-  pub field-none : {x : Refusal} → f ≡ RefusedField x → Leaves (length l₀) l₁ (fieldListAt d ws text (length l₀) f) (RefusedList x)
-  field-none e = rw e (cleared z)
+  pub field-none : {x : Refusal} → f ≡ RefusedField x → Writes (length l₀) l₁ (fieldListAt d ws text (length l₀) f) (RefusedList x)
+  field-none e = rw e (stopped (ap length z ∙ length-replicate (length l₀) 0))

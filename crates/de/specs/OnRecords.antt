@@ -1,4 +1,5 @@
--- Field reads on the records that an accepted reading leaves, by record number. That they are those of the tree is proved (proofs/Agree).
+-- Field reads on the records that an accepted reading leaves, by record number. That they are those of the tree is
+-- proved (proofs/Agree).
 use Prim.Native.Nat.{ℕ, suc, _+_, _*_, _-_, _<_, _≤_}
 use mathlib.Core.Path.{_≡_}
 use mathlib.Core.Bool.{Bool, true, false, not, cond}
@@ -7,13 +8,16 @@ use lib.Dec.{eqb, ltb}
 use lib.ListN.{length, replicate}
 use Rattle.utf8.specs.Test.{utf8}
 use Rattle.reading.specs.Buffers.{textPart}
-use Rattle.records.specs.Words.{kindWord, keyKindWord, keyWord, keyLengthWord, textWord, textLengthWord, childWord, nextWord, uninitializedKind, mapKind, sequenceKind, stringKind, nullKind, noValueKind, noKeyKind, intKeyKind, stringKeyKind}
+use Rattle.records.specs.Words.{kindWord, keyKindWord, keyWord, keyLengthWord, textWord, textLengthWord, childWord}
+use Rattle.records.specs.Words.{nextWord, uninitializedKind, mapKind, sequenceKind, stringKind, nullKind, noValueKind}
+use Rattle.records.specs.Words.{noKeyKind, intKeyKind, stringKeyKind}
 use Rattle.records.specs.Store.{recordCount, word}
 use Rattle.records.specs.Siblings.{children, lastOf, WellFormed}
 use Rattle.de.specs.declared.DuplicateKeyBehavior.{DuplicateKeyBehavior}
 use Rattle.de.specs.declared.DuplicateKeyBehavior.the-variants.{TakeLast, Error}
 use Rattle.de.specs.declared.refusals.Refusal.{Refusal}
-use Rattle.de.specs.declared.refusals.Refusal.the-variants.{WrongRoot, NoSuchField, WrongKind, SeveralValues, MissingIndex, NotUtf8, ShortSlice}
+use Rattle.de.specs.declared.refusals.Refusal.the-variants.{WrongRoot, NoSuchField, WrongKind, SeveralValues}
+use Rattle.de.specs.declared.refusals.Refusal.the-variants.{MissingIndex, NotUtf8, ShortSlice}
 use Rattle.de.specs.declared.field.FieldAt.{FieldAt}
 use Rattle.de.specs.declared.field.FieldAt.the-variants.{Record, Refused as RefusedField}
 use Rattle.de.specs.declared.text.TextRead.{TextRead}
@@ -25,7 +29,8 @@ use Rattle.de.specs.Fields.{sameBytes}
 use Rattle.de.specs.Reads.{refusedAnswer}
 use Rattle.de.specs.Lists.{Listed, listed, refused, prepend}
 
--- What the functions ask of the words and the text: records linked in lists that end, keys and values that lie in the text.
+-- What the functions ask of the words and the text: records linked in lists that end, keys and values that lie in the
+-- text.
 pub record Readable (ws text : List ℕ) : Type 0 where
   pub formed : WellFormed ws text
   pub values : (n : ℕ) → n < recordCount ws → word ws n textWord + word ws n textLengthWord ≤ length text
@@ -33,7 +38,8 @@ pub record Readable (ws text : List ℕ) : Type 0 where
 -- The text of a String.
 unfoldable pub stringTextAt : List ℕ → List ℕ → ℕ → TextRead
 stringTextAt ws text n =
-    cond (utf8 (textPart text (word ws n textWord) (word ws n textLengthWord))) (Text (word ws n textWord) (word ws n textLengthWord))
+    cond (utf8 (textPart text (word ws n textWord) (word ws n textLengthWord)))
+    (Text (word ws n textWord) (word ws n textLengthWord))
     (Refused NotUtf8)
 
 -- The text of record n where it is no Sequence.
@@ -103,7 +109,8 @@ elementAt duplicates ws text i n = cond (isNextAt ws i n) (textAt duplicates ws 
 -- The texts of the records of a list, from index i on.
 unfoldable pub inTurnAt : DuplicateKeyBehavior → List ℕ → List ℕ → ℕ → List ℕ → Listed
 inTurnAt duplicates ws text i [] = listed 0 []
-inTurnAt duplicates ws text i (m ∷ ms) = prepend (elementAt duplicates ws text i m) (inTurnAt duplicates ws text (suc i) ms)
+inTurnAt duplicates ws text i (m ∷ ms) =
+    prepend (elementAt duplicates ws text i m) (inTurnAt duplicates ws text (suc i) ms)
 
 -- The children of record n as a list's elements, into a slice of so many words.
 unfoldable pub elementsAt : DuplicateKeyBehavior → List ℕ → List ℕ → ℕ → ℕ → Listed
@@ -140,13 +147,10 @@ listReadAnswer records bytes (Elements count) =
     record { number = 0; place = 0; records = records; bytes = bytes; offset = 0; len = count }
 listReadAnswer records bytes (RefusedList x) = refusedAnswer records bytes x
 
--- What a list read answers and leaves in a slice of so many words: the elements' words and zeros; or, after a refusal, anything, since the slice is
--- cleared then.
+-- What a list read answers and leaves in a slice of so many words: the elements' words and zeros; or, after a
+-- refusal, anything, since the slice is cleared then (`clear_after`).
 pub data Writes (size : ℕ) (l : List ℕ) : Listed → ListRead → Type 0 where
-  wrote : {count : ℕ} {words : List ℕ} → l ≡ words ++ replicate (size - length words) 0 → Writes size l (listed count words) (Elements count)
+  wrote :
+      {count : ℕ} {words : List ℕ}
+      → l ≡ words ++ replicate (size - length words) 0 → Writes size l (listed count words) (Elements count)
   stopped : {x : Refusal} → length l ≡ size → Writes size l (refused x) (RefusedList x)
-
--- The same, cleared.
-pub data Leaves (size : ℕ) (l : List ℕ) : Listed → ListRead → Type 0 where
-  wrote : {count : ℕ} {words : List ℕ} → l ≡ words ++ replicate (size - length words) 0 → Leaves size l (listed count words) (Elements count)
-  cleared : {x : Refusal} → l ≡ replicate size 0 → Leaves size l (refused x) (RefusedList x)

@@ -1,7 +1,8 @@
-// Field reads: a reading, then the field of a name in the root as a text or as a list; `deserialize_str` and `deserialize_seq` of the source's
-// src/de.rs. What is promised stands in specs/Reads, and of the texts that are answered in specs/Answered.
-// Below it stand the reader (parse), the records and the tree that they hold (records, tree), the test for UTF-8 (utf8) and the definitions
-// (reading).
+// Field reads: a reading, then the field of a name in the root as a text or as a list; `deserialize_str` and
+// `deserialize_seq` of the source's src/de.rs. What is promised stands in specs/Reads, and of the texts that are
+// answered in specs/Answered.
+// Below it stand the reader (parse), the records and the tree that they hold (records, tree), the test for UTF-8
+// (utf8) and the definitions (reading).
 mod field; // the field of a name
 mod list; // the list of a record
 mod refusals; // refusals 16 to 22
@@ -21,14 +22,15 @@ use records::clearing::clear_words;
 use refusals::code;
 use text::TextRead;
 
-// `DuplicateKeyBehavior` of the source: where a text is asked for and the field has several values, the last is taken or they are refused.
+// `DuplicateKeyBehavior` of the source: where a text is asked for and the field has several values, the last is taken
+// or they are refused.
 pub enum DuplicateKeyBehavior {
     TakeLast,
     Error,
 }
 
-// Document 01's result of a field read: the reading's with its own number, and the text's offset and length (of a list, 0 and the number of
-// elements). C gets it as it stands.
+// Document 01's result of a field read: the reading's with its own number, and the text's offset and length (of a
+// list, 0 and the number of elements). C gets it as it stands.
 #[repr(C)]
 pub struct FieldRead {
     pub number: u32,
@@ -39,9 +41,11 @@ pub struct FieldRead {
     pub len: u32,
 }
 
-// The result where a number stands: of the reading with its place, or of the field after an accepted reading, whose counts stay.
+// The result where a number stands: of the reading with its place, or of the field after an accepted reading, whose
+// counts stay.
 fn refused(number: u32, place: u32, records: u32, bytes: u32) -> FieldRead
-    ensures { λ r. ⌜ r ≡ record { number = number; place = place; records = records; bytes = bytes; offset = 0; len = 0 } ⌝ }
+    ensures { λ r. ⌜ r
+        ≡ record { number = number; place = place; records = records; bytes = bytes; offset = 0; len = 0 } ⌝ }
 {
     FieldRead {
         number,
@@ -88,9 +92,10 @@ fn list_answer(records: u32, bytes: u32, read: ListRead) -> FieldRead
     }
 }
 
-// What a refused reading leaves in a list: refusals 1 to 3 what it held, the later ones zeros.
+// What a number leaves in a list: 0 to 3 what it holds, the later ones zeros. Under 0 it holds the elements.
 fn clear_after(number: u32, list: &mut [u32])
-    ensures { λ _. ⌜ now (list .exit) ≡ cond (leb number 3) (now (list .entry)) (replicate (length (now (list .entry))) 0) ⌝ }
+    ensures { λ _. ⌜ now (list .exit)
+        ≡ cond (leb number 3) (now (list .entry)) (replicate (length (now (list .entry))) 0) ⌝ }
 {
     if number <= 3 {
         return;
@@ -98,7 +103,8 @@ fn clear_after(number: u32, list: &mut [u32])
     clear_words(list);
 }
 
-// Reads the input into the lent words and text, and the field of a name in its root as a text. Words and text are as the reading leaves them.
+// Reads the input into the lent words and text, and the field of a name in its root as a text. Words and text are as
+// the reading leaves them.
 pub fn deserialize_str(
     input: &[u8],
     name: &[u8],
@@ -108,7 +114,8 @@ pub fn deserialize_str(
     text: &mut [u8],
 ) -> FieldRead
     ensures { λ r. ⌜ record { answer = r; words = now (words .exit); text = now (text .exit) }
-        ≡ textRead config duplicates (now (input .entry)) (now (name .entry)) (now (words .entry)) (now (text .entry)) ⌝ }
+        ≡ textRead config duplicates (now (input .entry)) (now (name .entry)) (now (words .entry))
+        (now (text .entry)) ⌝ }
 {
     match parse::parse(input, config, words, text) {
         Parsed::Accepted(records, bytes) => {
@@ -119,8 +126,9 @@ pub fn deserialize_str(
     }
 }
 
-// Reads the input into the lent words and text, and the field of a name in its root as a list, whose elements' offsets and lengths are written
-// to the lent list, with zeros behind them. Words and text are as the reading leaves them.
+// Reads the input into the lent words and text, and the field of a name in its root as a list, whose elements'
+// offsets and lengths are written to the lent list, with zeros behind them. Words and text are as the reading leaves
+// them.
 pub fn deserialize_seq(
     input: &[u8],
     name: &[u8],
@@ -130,13 +138,19 @@ pub fn deserialize_seq(
     text: &mut [u8],
     list: &mut [u32],
 ) -> FieldRead
-    ensures { λ r. ⌜ record { read = record { answer = r; words = now (words .exit); text = now (text .exit) }; list = now (list .exit) }
-        ≡ listRead config duplicates (now (input .entry)) (now (name .entry)) (now (words .entry)) (now (text .entry)) (now (list .entry)) ⌝ }
+    ensures { λ r. ⌜ record {
+      read = record { answer = r; words = now (words .exit); text = now (text .exit) };
+      list = now (list .exit);
+    }
+        ≡ listRead config duplicates (now (input .entry)) (now (name .entry)) (now (words .entry)) (now (text .entry))
+        (now (list .entry)) ⌝ }
 {
     match parse::parse(input, config, words, text) {
         Parsed::Accepted(records, bytes) => {
             let read = list::field_list(words, text, name, duplicates, list);
-            list_answer(records, bytes, read)
+            let answer = list_answer(records, bytes, read);
+            clear_after(answer.number, list);
+            answer
         }
         Parsed::Refused(number, place) => {
             clear_after(number, list);

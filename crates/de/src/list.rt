@@ -4,7 +4,8 @@ ghost use Prim.Native.Nat.{_+_, _*_, _≤_, _<_};
 ghost use lib.ListN.{length, set, replicate};
 ghost use Rattle.records.specs.Store.{recordCount};
 ghost use Rattle.records.specs.Siblings.{children, Linked};
-ghost use Rattle.de.specs.OnRecords.{Readable, intKeysAt, isNextAt, elementAt, inTurnAt, elementsAt, oneAt, listAt, fieldAt, fieldListAt, Writes, Leaves};
+ghost use Rattle.de.specs.OnRecords.{Readable, intKeysAt, isNextAt, elementAt, inTurnAt, elementsAt};
+ghost use Rattle.de.specs.OnRecords.{oneAt, listAt, fieldAt, fieldListAt, Writes};
 use crate::DuplicateKeyBehavior;
 use crate::field;
 use crate::field::FieldAt;
@@ -97,7 +98,8 @@ fn read_in_turn(
     duplicates: DuplicateKeyBehavior,
     list: &mut [u32],
 ) -> ListRead
-    requires { ⌜ Readable (now words) (now text) ⌝ ∗ ⌜ n < recordCount (now words) ⌝ ∗ ⌜ now list ≡ replicate (length (now list)) 0 ⌝
+    requires { ⌜ Readable (now words) (now text) ⌝ ∗ ⌜ n < recordCount (now words) ⌝
+        ∗ ⌜ now list ≡ replicate (length (now list)) 0 ⌝
         ∗ ⌜ 2 * length (children (now words) n) ≤ length (now list) ⌝ }
     ensures { λ r. ⌜ Writes (length (now (list .entry))) (now (list .exit))
         (inTurnAt duplicates (now (words .entry)) (now (text .entry)) 0 (children (now (words .entry)) n)) r ⌝ }
@@ -127,7 +129,8 @@ fn read_children(
     duplicates: DuplicateKeyBehavior,
     list: &mut [u32],
 ) -> ListRead
-    requires { ⌜ Readable (now words) (now text) ⌝ ∗ ⌜ n < recordCount (now words) ⌝ ∗ ⌜ now list ≡ replicate (length (now list)) 0 ⌝ }
+    requires { ⌜ Readable (now words) (now text) ⌝ ∗ ⌜ n < recordCount (now words) ⌝
+        ∗ ⌜ now list ≡ replicate (length (now list)) 0 ⌝ }
     ensures { λ r. ⌜ Writes (length (now (list .entry))) (now (list .exit))
         (elementsAt duplicates (now (words .entry)) (now (text .entry)) (length (now (list .entry))) n) r ⌝ }
 {
@@ -140,7 +143,8 @@ fn read_children(
 
 // Reads a String as the one element of a list into a cleared slice.
 fn read_one(words: &[u32], text: &[u8], n: u32, list: &mut [u32]) -> ListRead
-    requires { ⌜ Readable (now words) (now text) ⌝ ∗ ⌜ n < recordCount (now words) ⌝ ∗ ⌜ now list ≡ replicate (length (now list)) 0 ⌝ }
+    requires { ⌜ Readable (now words) (now text) ⌝ ∗ ⌜ n < recordCount (now words) ⌝
+        ∗ ⌜ now list ≡ replicate (length (now list)) 0 ⌝ }
     ensures { λ r. ⌜ Writes (length (now (list .entry))) (now (list .exit))
         (oneAt (now (words .entry)) (now (text .entry)) (length (now (list .entry))) n) r ⌝ }
 {
@@ -164,7 +168,8 @@ fn read_list(
     duplicates: DuplicateKeyBehavior,
     list: &mut [u32],
 ) -> ListRead
-    requires { ⌜ Readable (now words) (now text) ⌝ ∗ ⌜ n < recordCount (now words) ⌝ ∗ ⌜ now list ≡ replicate (length (now list)) 0 ⌝ }
+    requires { ⌜ Readable (now words) (now text) ⌝ ∗ ⌜ n < recordCount (now words) ⌝
+        ∗ ⌜ now list ≡ replicate (length (now list)) 0 ⌝ }
     ensures { λ r. ⌜ Writes (length (now (list .entry))) (now (list .exit))
         (listAt duplicates (now (words .entry)) (now (text .entry)) (length (now (list .entry))) n) r ⌝ }
 {
@@ -187,28 +192,7 @@ fn read_list(
     ListRead::Elements(0)
 }
 
-// The list of a record, read into a cleared slice, which is cleared again where it is refused.
-fn read_or_clear(
-    words: &[u32],
-    text: &[u8],
-    n: u32,
-    duplicates: DuplicateKeyBehavior,
-    list: &mut [u32],
-) -> ListRead
-    requires { ⌜ Readable (now words) (now text) ⌝ ∗ ⌜ n < recordCount (now words) ⌝ ∗ ⌜ now list ≡ replicate (length (now list)) 0 ⌝ }
-    ensures { λ r. ⌜ Leaves (length (now (list .entry))) (now (list .exit))
-        (listAt duplicates (now (words .entry)) (now (text .entry)) (length (now (list .entry))) n) r ⌝ }
-{
-    match read_list(words, text, n, duplicates, list) {
-        ListRead::Elements(count) => ListRead::Elements(count),
-        ListRead::Refused(refusal) => {
-            clear_words(list);
-            ListRead::Refused(refusal)
-        }
-    }
-}
-
-// The list of the field of a name. What the slice held is overwritten, and a refusal leaves it zero.
+// The list of the field of a name. What the slice held is overwritten.
 pub(crate) fn field_list(
     words: &[u32],
     text: &[u8],
@@ -217,13 +201,13 @@ pub(crate) fn field_list(
     list: &mut [u32],
 ) -> ListRead
     requires { ⌜ Readable (now words) (now text) ⌝ ∗ ⌜ 0 < recordCount (now words) ⌝ }
-    ensures { λ r. ⌜ Leaves (length (now (list .entry))) (now (list .exit))
+    ensures { λ r. ⌜ Writes (length (now (list .entry))) (now (list .exit))
         (fieldListAt duplicates (now (words .entry)) (now (text .entry)) (length (now (list .entry)))
         (fieldAt (now (words .entry)) (now (text .entry)) (now (name .entry)))) r ⌝ }
 {
     clear_words(list);
     match field::root_field(words, text, name) {
-        FieldAt::Record(n) => read_or_clear(words, text, n, duplicates, list),
+        FieldAt::Record(n) => read_list(words, text, n, duplicates, list),
         FieldAt::Refused(refusal) => ListRead::Refused(refusal),
     }
 }

@@ -1,4 +1,5 @@
 pub mod Agree
 pub mod Examples
 pub mod Loops
+pub mod ShownAfter
 pub mod Steps

@@ -26,7 +26,7 @@ unfolding rest
 rest-keep zero x t h = absurd (not-suc-le-zero h)
 rest-keep (suc k) x t h = rw sub-one
 
-rest-plain : (x : ℕ) (t : List ℕ) → (x ≡ 37 → ⊥) → rest 0 (x ∷ t) ≡ plusToSpace x ∷ rest 0 t
+pub rest-plain : (x : ℕ) (t : List ℕ) → (x ≡ 37 → ⊥) → rest 0 (x ∷ t) ≡ plusToSpace x ∷ rest 0 t
 unfolding rest decoded
 rest-plain x [] h = refl
 rest-plain x (y ∷ []) h = simp (ne-eqb x 37 h)

@@ -1,6 +1,6 @@
 -- Document 01, 'Decoding': what a raw segment decodes to, what `decode` answers, and what it leaves in the output.
 use Prim.Native.Nat.{ℕ}
-use mathlib.Core.Bool.{Bool, true, false, cond}
+use mathlib.Core.Bool.{Bool, true, false, cond, not}
 use mathlib.Core.List.{List, [], _∷_, _++_}
 use lib.Dec.{eqb, leb}
 use lib.ListN.{length, drop}
@@ -12,18 +12,19 @@ use Rattle.decode.specs.Hex.{isHex, byteOf}
 abbrev pub plusToSpace : ℕ → ℕ
 plusToSpace b = cond (eqb b 43) 32 b
 
--- "`%` with two hex digits, either case, becomes that byte. Otherwise the `%` stays and swallows unchanged the next byte if that
--- isn't hex, or the next two if only the first is; at the end it swallows what there is." (% is 37.)
+-- "`%` with two hex digits, either case, becomes that byte. Otherwise the `%` stays and swallows unchanged the next
+-- byte if that isn't hex, or the next two if only the first is; at the end it swallows what there is." (`%` is 37.)
 unfoldable pub decoded : List ℕ → List ℕ
 decoded [] = []
 decoded (x ∷ []) = plusToSpace x ∷ []
-decoded (x ∷ y ∷ []) = cond (eqb x 37) (x ∷ y ∷ []) (plusToSpace x ∷ decoded (y ∷ []))
+decoded (x ∷ y ∷ []) =
+    cond (not (eqb x 37)) (plusToSpace x ∷ decoded (y ∷ []))
+    (x ∷ y ∷ [])
 decoded (x ∷ y ∷ z ∷ r) =
-    cond (eqb x 37)
-    (cond (isHex y)
-    (cond (isHex z) (byteOf y z ∷ decoded r) (x ∷ y ∷ z ∷ decoded r))
-    (x ∷ y ∷ decoded (z ∷ r)))
-    (plusToSpace x ∷ decoded (y ∷ z ∷ r))
+    cond (not (eqb x 37)) (plusToSpace x ∷ decoded (y ∷ z ∷ r))
+    (cond (not (isHex y)) (x ∷ y ∷ decoded (z ∷ r))
+    (cond (not (isHex z)) (x ∷ y ∷ z ∷ decoded r)
+    (byteOf y z ∷ decoded r)))
 
 -- Whether the decoded bytes fit into the output.
 abbrev pub fitsIn : List ℕ → List ℕ → Bool

@@ -2,6 +2,8 @@ pub mod Hex
 pub mod Decoding
 pub mod Stepping
 pub mod Shown
+pub mod ShownAfter
 pub mod Whatwg
+pub mod Swallowed
 pub mod Agreement
 pub mod Examples

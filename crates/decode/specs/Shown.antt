@@ -4,6 +4,8 @@ use mathlib.Core.Bool.{Bool, true, false, cond}
 use mathlib.Core.List.{List, [], _∷_}
 use lib.Dec.{eqb}
 use lib.ListN.{take}
+use Rattle.decode.specs.declared.Decoded.{Decoded}
+use Rattle.decode.specs.Decoding.{answerOf}
 
 -- Neither `+` (43) nor `%` (37).
 abbrev pub plainByte : ℕ → Bool
@@ -14,7 +16,11 @@ unfoldable pub allPlain : List ℕ → Bool
 allPlain [] = true
 allPlain (x ∷ xs) = cond (plainByte x) (allPlain xs) false
 
--- "a part of the raw bytes where they hold neither `+` nor `%`, else the first bytes of the decoded buffer, as many as decoding answered (none
--- after a no)". n is that number, the second part of `answerOf`.
-abbrev pub shownOf : List ℕ → List ℕ → ℕ → List ℕ
-shownOf raw decoded n = cond (allPlain raw) raw (take n decoded)
+-- The number of decoded bytes in an answer: "the decoded length", or 0 after a no.
+abbrev pub lengthOf : Decoded → ℕ
+lengthOf answer = answerOf answer .1
+
+-- "a part of the raw bytes where they hold neither `+` nor `%`, else the first bytes of the decoded buffer, as many as
+-- decoding answered (none after a no)"
+abbrev pub shownOf : List ℕ → List ℕ → Decoded → List ℕ
+shownOf raw decoded answer = cond (allPlain raw) raw (take (lengthOf answer) decoded)

@@ -1,35 +1,29 @@
--- Decoding in the WHATWG URL Standard: the application/x-www-form-urlencoded parser replaces each `+` by a space and then percent-decodes.
+-- Decoding in the WHATWG URL Standard: the application/x-www-form-urlencoded parser replaces each `+` by a space and
+-- then percent-decodes.
+--
+-- That parser's last step is left out: "UTF-8 decode without BOM" of each name and value, which puts U+FFFD where they
+-- aren't UTF-8. Captions are to arrive byte for byte: document 01's decoding answers bytes, UTF-8 is a test of its own
+-- (`is_utf8`), and a field read refuses what isn't UTF-8.
 use Prim.Native.Nat.{ℕ}
-use mathlib.Core.Bool.{Bool, true, false, cond}
+use mathlib.Core.Bool.{cond, not}
 use mathlib.Core.List.{List, [], _∷_, map}
 use lib.Dec.{eqb}
 use Rattle.decode.specs.Hex.{isHex, byteOf}
 use Rattle.decode.specs.Decoding.{plusToSpace}
-use Rattle.decode.specs.Shown.{plainByte}
 
--- Percent-decode: a `%` whose next two bytes aren't both hex digits stays, and decoding goes on with the very next byte.
+-- Percent-decode: a `%` whose next two bytes aren't both hex digits stays, and decoding goes on with the next byte.
+-- Written in the cases of `decoded` (specs/Decoding).
 unfoldable pub percentDecode : List ℕ → List ℕ
 percentDecode [] = []
 percentDecode (x ∷ []) = x ∷ []
-percentDecode (x ∷ y ∷ []) = x ∷ y ∷ []
+percentDecode (x ∷ y ∷ []) =
+    cond (not (eqb x 37)) (x ∷ percentDecode (y ∷ []))
+    (x ∷ percentDecode (y ∷ []))
 percentDecode (x ∷ y ∷ z ∷ r) =
-    cond (eqb x 37)
-    (cond (isHex y)
-    (cond (isHex z) (byteOf y z ∷ percentDecode r) (x ∷ percentDecode (y ∷ z ∷ r)))
-    (x ∷ percentDecode (y ∷ z ∷ r)))
-    (x ∷ percentDecode (y ∷ z ∷ r))
+    cond (not (eqb x 37)) (x ∷ percentDecode (y ∷ z ∷ r))
+    (cond (not (isHex y)) (x ∷ percentDecode (y ∷ z ∷ r))
+    (cond (not (isHex z)) (x ∷ percentDecode (y ∷ z ∷ r))
+    (byteOf y z ∷ percentDecode r)))
 
 abbrev pub whatwg : List ℕ → List ℕ
 whatwg raw = percentDecode (map plusToSpace raw)
-
--- "no failed escape swallows '+' or '%'": each byte that document 01's decoding swallows is plain.
-unfoldable pub noneSwallowed : List ℕ → Bool
-noneSwallowed [] = true
-noneSwallowed (x ∷ []) = true
-noneSwallowed (x ∷ y ∷ []) = cond (eqb x 37) (plainByte y) (noneSwallowed (y ∷ []))
-noneSwallowed (x ∷ y ∷ z ∷ r) =
-    cond (eqb x 37)
-    (cond (isHex y)
-    (cond (isHex z) (noneSwallowed r) (cond (plainByte y) (cond (plainByte z) (noneSwallowed r) false) false))
-    (cond (plainByte y) (noneSwallowed (z ∷ r)) false))
-    (noneSwallowed (y ∷ z ∷ r))

@@ -1,5 +1,6 @@
-// Percent decoding of a raw segment, as the source's src/de/parse/decode.rs has it: `decode`, the by-value step `next_byte`, and `shown`,
-// which stands in for the source's `Cow`. The definitions are in specs/Decoding; specs/Agreement compares them with WHATWG's.
+// Percent decoding of a raw segment, as the source's src/de/parse/decode.rs has it: `decode`, the by-value step
+// `next_byte`, and `shown`, which stands in for the source's `Cow`. Definitions: specs/Decoding and specs/Shown.
+// specs/Agreement compares decoding with WHATWG's, and specs/ShownAfter tells what is shown after it.
 // Below it stands `laws`.
 ghost use mathlib.Core.Path.{_≡_};
 ghost use mathlib.Core.List.{_++_};
@@ -9,7 +10,7 @@ ghost use lib.ListN.{length, drop, getD};
 ghost use Rattle.decode.specs.Hex.{digitOf};
 ghost use Rattle.decode.specs.Decoding.{decoded, plusToSpace, answerOf, answer, written};
 ghost use Rattle.decode.specs.Stepping.{Yields};
-ghost use Rattle.decode.specs.Shown.{allPlain, shownOf};
+ghost use Rattle.decode.specs.Shown.{allPlain, lengthOf, shownOf};
 
 // The answer of `decode`: the number of bytes written, or that they don't fit.
 pub enum Decoded {
@@ -52,7 +53,8 @@ fn plus_to_space(b: u8) -> u8
     if b == b'+' { b' ' } else { b }
 }
 
-// The next byte of the decoding at a '%': the byte that its two hex digits name, or the '%' itself, which swallows the next byte or two.
+// The next byte of the decoding at a '%': the byte that its two hex digits name, or the '%' itself, which swallows the
+// next byte or two.
 fn next_escape(raw: &[u8], i: usize) -> NextByte
     requires { ⌜ (i < length (now raw)) × (getD (now raw) i 0 ≡ 37) ⌝ }
     ensures { λ r. ⌜ Yields (now (raw .entry)) i 0 (r .byte) (r .next) (r .keep) ⌝ }
@@ -143,7 +145,8 @@ pub fn fits(raw: &[u8], size: usize) -> bool
 fn write(raw: &[u8], out: &mut [u8]) -> usize
     requires { ⌜ length (decoded (now raw)) ≤ length (now out) ⌝ }
     ensures length { λ r. ⌜ r ≡ length (decoded (now (raw .entry))) ⌝ }
-    ensures bytes { λ _. ⌜ now (out .exit) ≡ decoded (now (raw .entry)) ++ drop (length (decoded (now (raw .entry)))) (now (out .entry)) ⌝ }
+    ensures bytes { λ _. ⌜ now (out .exit) ≡ decoded (now (raw .entry))
+        ++ drop (length (decoded (now (raw .entry)))) (now (out .entry)) ⌝ }
 {
     let mut i = 0;
     let mut keep = 0;
@@ -158,8 +161,8 @@ fn write(raw: &[u8], out: &mut [u8]) -> usize
     n
 }
 
-// Decodes `raw` into `out`: yes and the length, with the further bytes of `out` as they were; or, exactly if the decoded bytes
-// don't fit, no with `out` unchanged.
+// Decodes `raw` into `out`: yes and the length, with the further bytes of `out` as they were; or, exactly if the
+// decoded bytes don't fit, no with `out` unchanged.
 pub fn decode(raw: &[u8], out: &mut [u8]) -> Decoded
     ensures answer { λ r. ⌜ answerOf r ≡ answer (now (raw .entry)) (now (out .entry)) ⌝ }
     ensures output { λ _. ⌜ now (out .exit) ≡ written (now (raw .entry)) (now (out .entry)) ⌝ }
@@ -190,14 +193,25 @@ fn is_plain(raw: &[u8]) -> bool
     true
 }
 
-// Text shown to a caller: `raw` itself where it holds neither '+' nor '%', else the first `n` bytes of `decoded`. `n` is
-// what decoding answered, 0 after a no.
-pub fn shown<'a>(raw: &'a [u8], decoded: &'a [u8], n: usize) -> &'a [u8]
-    ensures { λ r. ⌜ now r ≡ shownOf (now (raw .entry)) (now (decoded .entry)) n ⌝ }
+// The number of bytes that decoding answered, 0 after a no.
+fn answered_len(answer: Decoded) -> usize
+    ensures { λ r. ⌜ r ≡ lengthOf answer ⌝ }
+{
+    match answer {
+        Decoded::Yes(n) => n,
+        Decoded::No => 0,
+    }
+}
+
+// Text shown to a caller: `raw` itself where it holds neither '+' nor '%', else the first bytes of `decoded`, as many
+// as decoding answered, or all where there are fewer. specs/ShownAfter tells what that is after `decode` of `raw`.
+pub fn shown<'a>(raw: &'a [u8], decoded: &'a [u8], answer: Decoded) -> &'a [u8]
+    ensures { λ r. ⌜ now r ≡ shownOf (now (raw .entry)) (now (decoded .entry)) answer ⌝ }
 {
     if is_plain(raw) {
         return raw;
     }
+    let n = answered_len(answer);
     if n <= decoded.len() {
         &decoded[0..n]
     } else {

@@ -1,13 +1,10 @@
--- What is collected of each worked example is as expected.
-use mathlib.Core.Path.{_≡_, refl}
-use mathlib.Core.List.{map}
-use Rattle.config.specs.Defaults.{defaults}
+-- The examples, decided by computing the definitions.
+use mathlib.Core.Path.{refl}
 use Rattle.decode.specs.Hex.{digitOf}
 use Rattle.decode.specs.Decoding.{decoded}
 use Rattle.key.specs.Keys.{allDigits, valueFrom}
-use Rattle.key.specs.Collected.{collected}
-use Rattle.key.specs.Examples.{examples}
+use Rattle.key.specs.Examples.{ExamplesPass}
 
-pub expected : map (λ e. collected defaults (e .0)) examples ≡ map (λ e. e .1) examples
+pub examples-pass : ExamplesPass
 unfolding allDigits valueFrom decoded digitOf
-expected = refl
+examples-pass = refl

@@ -1,16 +1,17 @@
 -- Decimal and hex: their digits one by one.
 use mathlib.Core.Path.{_≡_, refl, sym, ap, _∙_}
-use mathlib.Core.Bool.{cond}
+use mathlib.Core.Bool.{true, cond}
 use mathlib.Core.List.{List, [], _∷_, _++_}
 use Prim.Native.Nat.{ℕ, zero, suc, _+_, _-_, _*_, _/_, _%_, _≤_, _<_}
 use native.Mathlib.Omega.{arith}
-use borrow.Author.Tests.{lt-ltb, le-ltb}
+use borrow.Author.Tests.{lt-ltb, le-ltb, le-leb}
 use lib.Dec.{ltb}
 use lib.ListN.{length, drop, getD, drop-of-length-le}
 use Rattle.laws.proofs.Cases.{below}
 use Rattle.laws.proofs.Lists.{drop-1}
-use Rattle.key.specs.Keys.{valueFrom}
+use Rattle.key.specs.Keys.{isDigit, allDigits, valueFrom}
 use Rattle.listing.specs.Numbers.{decimalIn, decimal, hexDigit, hex}
+use Rattle.listing.specs.Decimals.{DecimalOf, Decimals}
 use Rattle.listing.specs.Output.{Page, Puts}
 use Rattle.listing.proofs.Pages.{puts-then, puts-same}
 
@@ -48,20 +49,50 @@ puts-digit n h e = puts-same e (sym (decimal-digit n h))
 pub puts-digits : {p p₁ p₂ : Page} (n : ℕ) → 10 ≤ n → Puts (decimal (n / 10)) p p₁ → Puts ((48 + n % 10) ∷ []) p₁ p₂ → Puts (decimal n) p p₂
 puts-digits n h e f = puts-same (puts-then e f) (sym (decimal-more n h))
 
--- The digits of a number have its value.
+-- The digits are those of the number in base ten: one more at the end, and all of them.
 value-last : (s : List ℕ) (v d : ℕ) → valueFrom v (s ++ (d ∷ [])) ≡ valueFrom v s * 10 + (d - 48)
 unfolding valueFrom
 value-last [] v d = refl
 value-last (b ∷ s) v d = value-last s (v * 10 + (b - 48)) d
 
-decimal-in-value : (more n : ℕ) → n ≤ more → valueFrom 0 (decimalIn more n) ≡ n
-unfolding decimalIn valueFrom
-decimal-in-value zero n h = omega arith
-decimal-in-value (suc more) n h =
-    below n 10 (λ g. rw (lt-ltb n 10 g) (omega arith))
-    (λ g.
-    rw (le-ltb n 10 g) (value-last (decimalIn more (n / 10)) 0 (48 + n % 10) ∙ omega (arith, decimal-in-value more (n / 10) (omega arith))))
+digits-last : (s : List ℕ) (d : ℕ) → isDigit d ≡ true → allDigits (s ++ (d ∷ [])) ≡ allDigits s
+unfolding allDigits
+digits-last [] d e = rw e
+digits-last (b ∷ s) d e = rw (digits-last s d e)
 
-pub decimal-value : (n : ℕ) → valueFrom 0 (decimal n) ≡ n
+first-before : (s : List ℕ) (d : ℕ) → 48 < getD s 0 0 → 48 < getD (s ++ (d ∷ [])) 0 0
+first-before [] d h = absurd (omega arith)
+first-before (b ∷ s) d h = h
+
+last-digit : (n : ℕ) → isDigit (48 + n % 10) ≡ true
+last-digit n = rw (le-leb 48 (48 + n % 10) (omega arith), le-leb (48 + n % 10) 57 (omega arith))
+
+one-digit : (n : ℕ) → n < 10 → DecimalOf n ((48 + n % 10) ∷ [])
+unfolding allDigits valueFrom
+one-digit n h =
+    record {
+      digits = rw (last-digit n);
+      value = omega arith;
+      ofZero = λ e. let f : 48 + n % 10 ≡ 48 = omega arith in rw f;
+      unpadded = λ k. omega arith;
+    }
+
+more-digits : (n : ℕ) {front : List ℕ} → 10 ≤ n → DecimalOf (n / 10) front → DecimalOf n (front ++ ((48 + n % 10) ∷ []))
+more-digits n {front} h d =
+    record {
+      digits = digits-last front (48 + n % 10) (last-digit n) ∙ d .digits;
+      value = value-last front 0 (48 + n % 10) ∙ omega (arith, d .value);
+      ofZero = λ e. absurd (omega arith);
+      unpadded = λ k. first-before front (48 + n % 10) (d .unpadded (omega arith));
+    }
+
+decimal-in : (more n : ℕ) → n ≤ more → DecimalOf n (decimalIn more n)
+unfolding decimalIn
+decimal-in zero n h = one-digit n (omega arith)
+decimal-in (suc more) n h =
+    below n 10 (λ g. rw (lt-ltb n 10 g) (one-digit n g))
+    (λ g. rw (le-ltb n 10 g) (more-digits n g (decimal-in more (n / 10) (omega arith))))
+
+pub decimals : Decimals
 unfolding decimal
-decimal-value n = decimal-in-value n n (omega arith)
+decimals n = decimal-in n n (omega arith)

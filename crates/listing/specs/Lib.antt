@@ -1,4 +1,5 @@
 pub mod Numbers
+pub mod Decimals
 pub mod Lines
 pub mod Listing
 pub mod Bounded

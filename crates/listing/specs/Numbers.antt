@@ -11,7 +11,7 @@ decimalIn (suc more) n =
     let front = decimalIn more (n / 10) in
     cond (ltb n 10) [] front ++ ((48 + n % 10) ∷ [])
 
--- All the digits: a number has no more digits before its last than its value (proofs/Digits: decimal-value).
+-- All the digits: a number has no more of them before its last than its value. specs/Decimals says what they are.
 unfoldable pub decimal : ℕ → List ℕ
 decimal n = decimalIn n n
 

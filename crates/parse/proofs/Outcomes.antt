@@ -5,7 +5,7 @@ use mathlib.Core.Bool.{Bool, true, false}
 use mathlib.Core.List.{List, [], _∷_}
 use native.Mathlib.Omega.{arith}
 use borrow.Author.Tests.{leb-true, leb-false, lt-ltb, le-ltb}
-use lib.Dec.{leb}
+use lib.Dec.{leb, ltb}
 use lib.ListN.{length, replicate, length-replicate}
 use Rattle.config.specs.declared.Config.{Config}
 use Rattle.config.specs.Limits.{maxDepth, maxLen, recordWidth}
@@ -121,29 +121,30 @@ module _ (W X W′ X′ : List ℕ) (a : W′ ≡ replicate (length W) 0) (b : X
       ∙ sym (ap (λ (n : ℕ). outcome n (length X) (accepted noValue 1 [])) (sym long) ∙ ap (λ (n : ℕ). outcome (length W″) n (accepted noValue 1 []))
       (sym cleared-text) ∙ outcome-is stores)
 
--- Whether a record is lent.
-pub has-record : (W : List ℕ) {b : Bool} → b ≡ leb 1 (recordCount W) → b ≡ true → recordWidth ≤ length W
-has-record W e f = omega (arith, leb-true 1 (recordCount W) (sym e ∙ f))
+-- Whether so many records are lent.
+module _ (W : List ℕ) {n : ℕ} {b : Bool} (e : b ≡ leb n (recordCount W)) where
+  pub has-records : b ≡ true → n ≤ recordCount W
+  has-records f = leb-true n (recordCount W) (sym e ∙ f)
 
-pub lacks-record : (W : List ℕ) {b : Bool} → b ≡ leb 1 (recordCount W) → b ≡ false → length W < recordWidth
-lacks-record W e f = omega (arith, leb-false 1 (recordCount W) (sym e ∙ f))
+  pub lacks-records : b ≡ false → recordCount W < n
+  lacks-records f = leb-false n (recordCount W) (sym e ∙ f)
 
 -- Refusals 1 to 3.
 module _ (config : Config) (s W X : List ℕ) where
-  pub too-deep : maxDepth < config .depth → outcomeOf (RefusedHere 1 0) W X ≡ reading config s W X
+  pub too-deep : ltb maxDepth (config .depth) ≡ true → outcomeOf (RefusedHere 1 0) W X ≡ reading config s W X
   unfolding reading
-  too-deep h = rw (lt-ltb maxDepth (config .depth) h)
+  too-deep h = rw h
 
-  module _ (h : config .depth ≤ maxDepth) where
-    pub too-long : maxLen < length s → outcomeOf (RefusedHere 2 0) W X ≡ reading config s W X
+  module _ (h : ltb maxDepth (config .depth) ≡ false) where
+    pub too-long : ltb maxLen (length s) ≡ true → outcomeOf (RefusedHere 2 0) W X ≡ reading config s W X
     unfolding reading
-    too-long k = rw (le-ltb maxDepth (config .depth) h, lt-ltb maxLen (length s) k)
+    too-long k = rw (h, k)
 
-    module _ (k : length s ≤ maxLen) where
+    module _ (k : ltb maxLen (length s) ≡ false) where
       pub no-record : length W < recordWidth → outcomeOf (RefusedHere 3 0) W X ≡ reading config s W X
       unfolding reading
-      no-record l = rw (le-ltb maxDepth (config .depth) h, le-ltb maxLen (length s) k, lt-ltb (length W) recordWidth l)
+      no-record l = rw (h, k, lt-ltb (length W) recordWidth l)
 
       pub is-read : recordWidth ≤ length W → outcome (length W) (length X) (parsed config s (lentBy W X)) ≡ reading config s W X
       unfolding reading
-      is-read l = rw (le-ltb maxDepth (config .depth) h, le-ltb maxLen (length s) k, le-ltb (length W) recordWidth l)
+      is-read l = rw (h, k, le-ltb (length W) recordWidth l)

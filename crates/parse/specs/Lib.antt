@@ -1,4 +1,6 @@
 pub mod Outcomes
 pub mod Calls
-pub mod Growth
+pub mod Answers
 pub mod Space
+pub mod Growth
+pub mod Demands

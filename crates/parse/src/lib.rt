@@ -1,5 +1,5 @@
-// The reader: the source's `parse` and its `Parser` (src/de/parse.rs), of an input into lent records and text, equal to `reading`
-// (specs/Outcomes). What follows for any calls stands in specs/Growth and specs/Space.
+// The reader: the source's `parse` and its `Parser` (src/de/parse.rs), of an input into lent records and text, equal
+// to `reading` (specs/Outcomes). The demands that follow for one call and for two stand in specs/Demands.
 // Below it stand the reading of the pairs (pairs), the records (records) and the definitions (reading).
 mod parser; // the parser that holds the input
 mod refusals; // the numbers of the refusals
@@ -23,7 +23,8 @@ use records::clearing::clear_words;
 use records::store;
 use records::store::ValueWords;
 
-// The answer of a reading: accepted, with the records and the text bytes used; or refused, with document 01's number and place.
+// The answer of a reading: accepted, with the records and the text bytes used; or refused, with document 01's number
+// and place.
 pub enum Parsed {
     Accepted(u32, u32),
     Refused(u32, usize),
@@ -50,7 +51,8 @@ fn parse_some(input: &[u8], config: Config, words: &mut [u32], text: &mut [u8]) 
 // Reads an empty input into cleared slices: a NoValue root.
 fn parse_empty(words: &mut [u32]) -> Parsed
     requires { ⌜ recordWidth ≤ length (now words) ⌝ }
-    ensures { λ r. ⌜ (now (words .exit) ≡ withValue (now (words .entry)) 0 (childless noValueKind)) × (r ≡ Accepted 1 0) ⌝ }
+    ensures { λ r. ⌜ (now (words .exit) ≡ withValue (now (words .entry)) 0 (childless noValueKind))
+        × (r ≡ Accepted 1 0) ⌝ }
 {
     let no_value = ValueWords {
         kind: store::NO_VALUE,
@@ -78,12 +80,13 @@ fn parse_cleared(input: &[u8], config: Config, words: &mut [u32], text: &mut [u8
 
 // Reads the input unless refusals 1 to 3 stand against it, which leave words and text unchanged.
 fn parse_input(input: &[u8], config: Config, words: &mut [u32], text: &mut [u8]) -> Parsed
-    ensures { λ r. ⌜ outcomeOf r (now (words .exit)) (now (text .exit)) ≡ reading config (now (input .entry)) (now (words .entry)) (now (text .entry)) ⌝ }
+    ensures { λ r. ⌜ outcomeOf r (now (words .exit)) (now (text .exit))
+        ≡ reading config (now (input .entry)) (now (words .entry)) (now (text .entry)) ⌝ }
 {
-    if Config::MAX_DEPTH < config.depth {
+    if config.is_too_deep() {
         return Parsed::Refused(refusals::TOO_DEEP, 0);
     }
-    if Config::MAX_LEN < input.len() {
+    if Config::is_too_long(input.len()) {
         return Parsed::Refused(refusals::TOO_LONG, 0);
     }
     if store::has_room(words, 1) {
@@ -92,10 +95,11 @@ fn parse_input(input: &[u8], config: Config, words: &mut [u32], text: &mut [u8])
     Parsed::Refused(refusals::NO_RECORD, 0)
 }
 
-// Reads the input into the lent words and text. Refusals 1 to 3 leave both unchanged, the later ones leave both zero; what an accepted reading
-// doesn't use is zero.
+// Reads the input into the lent words and text. Refusals 1 to 3 leave both unchanged, the later ones leave both zero;
+// what an accepted reading doesn't use is zero.
 pub fn parse(input: &[u8], config: Config, words: &mut [u32], text: &mut [u8]) -> Parsed
-    ensures { λ r. ⌜ outcomeOf r (now (words .exit)) (now (text .exit)) ≡ reading config (now (input .entry)) (now (words .entry)) (now (text .entry)) ⌝ }
+    ensures { λ r. ⌜ outcomeOf r (now (words .exit)) (now (text .exit))
+        ≡ reading config (now (input .entry)) (now (words .entry)) (now (text .entry)) ⌝ }
 {
     Parser::new(input).parse(config, words, text)
 }

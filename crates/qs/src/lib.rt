@@ -1,12 +1,14 @@
-// The functions exported to C and Rust, each a thin cover of a proved one; `rt staticlib qs` writes them to one archive. A slice is passed as a
-// pointer and the count of its elements. The definitions are those of the crates below, in C's numbers (specs/Numbers, specs/Readings).
-// Below it stand the reader (parse), field reads (de), decoding (decode), the test for UTF-8 (utf8) and the settings (config).
+// The functions exported to C and Rust, each a thin cover of a proved one; `rt staticlib qs` writes them to one
+// archive. A slice is passed as a pointer and the count of its elements. The definitions are those of the crates
+// below, in C's numbers (specs/Numbers, specs/Readings).
+// Below it stand the reader (parse), field reads (de), decoding (decode), the test for UTF-8 (utf8) and the settings
+// (config).
 ghost use mathlib.Core.Path.{_≡_};
 ghost use Rattle.decode.specs.Decoding.{answer, written};
 ghost use Rattle.utf8.specs.Test.{utf8};
 ghost use Rattle.reading.specs.Reading.{reading};
 ghost use Rattle.de.specs.Reads.{textRead, listRead};
-ghost use Rattle.qs.specs.Numbers.{lengthOrNo, oneOrZero};
+ghost use Rattle.qs.specs.Numbers.{lengthOrNo, oneOrZero, OneForUtf8};
 ghost use Rattle.qs.specs.Readings.{settings, behavior, resultIn};
 use config::Config;
 use de::DuplicateKeyBehavior;
@@ -23,8 +25,8 @@ pub struct Reading {
     pub bytes: u32,
 }
 
-// Decodes `raw` into `out`: the decoded length, with the further bytes of `out` as they were; or -1 where the decoded bytes don't
-// fit, with `out` unchanged.
+// Decodes `raw` into `out`: the decoded length, with the further bytes of `out` as they were; or -1 where the decoded
+// bytes don't fit, with `out` unchanged.
 #[no_mangle]
 pub extern "C" fn qs_decode(raw: &[u8], out: &mut [u8]) -> i64
     ensures answer { λ r. ⌜ r ≡ lengthOrNo (answer (now (raw .entry)) (now (out .entry))) ⌝ }
@@ -39,7 +41,8 @@ pub extern "C" fn qs_decode(raw: &[u8], out: &mut [u8]) -> i64
 // Whether the bytes are UTF-8: 1 or 0.
 #[no_mangle]
 pub extern "C" fn qs_utf8(bytes: &[u8]) -> i32
-    ensures { λ r. ⌜ r ≡ oneOrZero (utf8 (now (bytes .entry))) ⌝ }
+    ensures test { λ r. ⌜ r ≡ oneOrZero (utf8 (now (bytes .entry))) ⌝ }
+    ensures grammar { λ r. ⌜ OneForUtf8 r (now (bytes .entry)) ⌝ }
 {
     if utf8::is_utf8(bytes) { 1 } else { 0 }
 }
@@ -65,8 +68,8 @@ fn behavior(duplicates: u32) -> DuplicateKeyBehavior
     }
 }
 
-// Reads `input` into lent `records`, eight words each, and `text`, at a depth and with the form flag off (0) or on (anything else). Refusals 1 to 3
-// leave both slices unchanged, the later ones leave them zero.
+// Reads `input` into lent `records`, eight words each, and `text`, at a depth and with the form flag off (0) or on
+// (anything else). Refusals 1 to 3 leave both slices unchanged, the later ones leave them zero.
 #[no_mangle]
 pub extern "C" fn qs_parse(
     depth: u32,
@@ -94,8 +97,8 @@ pub extern "C" fn qs_parse(
     }
 }
 
-// Reads `input` as `qs_parse` does, and then the root's field of that name as a text: its offset and length in `text`. Of several
-// values 0 takes the last, and anything else refuses them.
+// Reads `input` as `qs_parse` does, and then the root's field of that name as a text: its offset and length in
+// `text`. Of several values 0 takes the last, and anything else refuses them.
 #[no_mangle]
 pub extern "C" fn qs_text(
     depth: u32,
@@ -107,15 +110,16 @@ pub extern "C" fn qs_text(
     text: &mut [u8],
 ) -> FieldRead
     ensures { λ r. ⌜ record { answer = r; words = now (records .exit); text = now (text .exit) }
-        ≡ textRead (settings depth form) (behavior duplicates) (now (input .entry)) (now (name .entry)) (now (records .entry)) (now (text .entry)) ⌝ }
+        ≡ textRead (settings depth form) (behavior duplicates) (now (input .entry)) (now (name .entry))
+        (now (records .entry)) (now (text .entry)) ⌝ }
 {
     let config = settings(depth, form);
     let duplicates = behavior(duplicates);
     de::deserialize_str(input, name, config, duplicates, records, text)
 }
 
-// The same, of the field as a list: each element's offset and length are written to `list`, with zeros behind them. Refusals 1 to 3
-// leave it unchanged, the later ones leave it zero.
+// The same, of the field as a list: each element's offset and length are written to `list`, with zeros behind them.
+// Refusals 1 to 3 leave it unchanged, the later ones leave it zero.
 #[no_mangle]
 pub extern "C" fn qs_list(
     depth: u32,
@@ -127,9 +131,12 @@ pub extern "C" fn qs_list(
     text: &mut [u8],
     list: &mut [u32],
 ) -> FieldRead
-    ensures { λ r. ⌜ record { read = record { answer = r; words = now (records .exit); text = now (text .exit) }; list = now (list .exit) }
-        ≡ listRead (settings depth form) (behavior duplicates) (now (input .entry)) (now (name .entry)) (now (records .entry)) (now (text .entry))
-        (now (list .entry)) ⌝ }
+    ensures { λ r. ⌜ record {
+      read = record { answer = r; words = now (records .exit); text = now (text .exit) };
+      list = now (list .exit);
+    }
+        ≡ listRead (settings depth form) (behavior duplicates) (now (input .entry)) (now (name .entry))
+        (now (records .entry)) (now (text .entry)) (now (list .entry)) ⌝ }
 {
     let config = settings(depth, form);
     let duplicates = behavior(duplicates);

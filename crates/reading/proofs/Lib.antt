@@ -20,3 +20,4 @@ pub mod Growth
 pub mod Space
 pub mod Segments
 pub mod Tests
+pub mod Lost

@@ -1,10 +1,10 @@
 -- What is proved of every run from the start, carried to the outcome of a reading: `answers`, `tree-held`, `counts`, `shape`.
-use Prim.Native.Nat.{ℕ, _*_, _-_, _≤_}
+use Prim.Native.Nat.{ℕ, _*_, _-_, _≤_, _<_}
 use mathlib.Core.Path.{_≡_, refl, sym, _∙_}
 use mathlib.Core.Bool.{Bool, true, false, _&&_}
 use mathlib.Core.List.{List, [], _∷_, _++_}
 use native.Mathlib.Omega.{arith}
-use borrow.Author.Tests.{ltb-false}
+use borrow.Author.Tests.{ltb-true, ltb-false}
 use lib.Dec.{T, leb, leb→le, ltb}
 use lib.ListN.{length, replicate, length-append, length-replicate}
 use lib.Seq.{drop-at}
@@ -54,12 +54,12 @@ code-some noSuchPath e = omega arith
 
 -- What holds of the four outcomes that a reading may have holds of it.
 pub reading-cases : (Q : Outcome → Type 0) (config : Config) (input words text : List ℕ)
-    → Q (unread tooDeep words text) → Q (unread tooLong words text) → Q (unread noRecord words text)
+    → Q (unread tooDeep words text) → Q (unread tooLong words text) → (length words < recordWidth → Q (unread noRecord words text))
     → (recordWidth ≤ length words → Q (outcome (length words) (length text) (parsed config input (lentBy words text)))) → Q (reading config input words text)
 unfolding reading
 reading-cases Q config input words text deep long few read =
     by-test Q (ltb maxDepth (config .depth)) (λ e. deep)
-    (λ e. by-test Q (ltb maxLen (length input)) (λ f. long) (λ f. by-test Q (ltb (length words) recordWidth) (λ g. few) (λ g. read (ltb-false (length words) recordWidth g))))
+    (λ e. by-test Q (ltb maxLen (length input)) (λ f. long) (λ f. by-test Q (ltb (length words) recordWidth) (λ g. few (ltb-true (length words) recordWidth g)) (λ g. read (ltb-false (length words) recordWidth g))))
 
 -- What a reading makes of its input.
 pub record Sound (lent : Lent) (v : Value) (n : ℕ) (t : List ℕ) : Type 0 where
@@ -163,7 +163,7 @@ outcome-answered words text (refusesAt {x = x} {p = p} h) = refused-answered wor
 pub answers : Answers
 answers config input words text =
     reading-cases (Answered words text) config input words text (unread-answered words text tooDeep (omega arith) (omega arith))
-    (unread-answered words text tooLong (omega arith) (omega arith)) (unread-answered words text noRecord (omega arith) (omega arith))
+    (unread-answered words text tooLong (omega arith) (omega arith)) (λ h. unread-answered words text noRecord (omega arith) (omega arith))
     (λ h. outcome-answered words text (parsed-sound config input (lentBy words text) (whole-records words text h)))
 
 -- What is proved of the tree of an accepted reading and of its outcome.
@@ -172,7 +172,7 @@ pub of-accepted : (Q : Outcome → Value → ℕ → List ℕ → Type 0) (confi
     → (reading config input words text) .number ≡ 0 → Accepts (Q (reading config input words text)) (parsed config input (lentBy words text))
 of-accepted Q config input words text f =
     reading-cases (λ o. o .number ≡ 0 → Accepts (Q o) (parsed config input (lentBy words text))) config input words text
-    (λ e. absurd (omega arith)) (λ e. absurd (omega arith)) (λ e. absurd (omega arith))
+    (λ e. absurd (omega arith)) (λ e. absurd (omega arith)) (λ h e. absurd (omega arith))
     (λ h. go (parsed-sound config input (lentBy words text) (whole-records words text h)))
   where
     go : {a : Answer} → Ends (Sound (lentBy words text)) (λ x p. Numbered x) a

@@ -13,7 +13,7 @@ use Rattle.decode.proofs.Loops.{decoded-le}
 use Rattle.key.specs.Keys.{Key, int, str, valueFrom, isInt, keyOf}
 use Rattle.reading.specs.Values.{unkeyed, Value, uninitialized, null, noValue, string, map, sequence, Forest, none, child}
 use Rattle.reading.specs.Leaves.{Leaf, valueOf}
-use Rattle.reading.specs.Refusals.{Refusal, code}
+use Rattle.reading.specs.Refusals.{Refusal, code, tooDeep, tooLong}
 use Rattle.reading.specs.Charging.{Lent, Made, made, over, bind, charge}
 use Rattle.reading.specs.Adding.{expectMap, expectSequence, keyText, leafText, labelAt, valueAt, snoc, push, insertUnique, enterKey}
 use Rattle.reading.specs.Taking.{Symbol, ampersand, equals, opening, closing, other, Token, tokens}
@@ -21,7 +21,7 @@ use Rattle.reading.specs.Scanning.{Target, root, under, last, Command, s
 use Rattle.reading.specs.Running.{perform, Answer, run}
 use Rattle.reading.specs.Reading.{lentBy, parsed, outcome}
 use Rattle.reading.specs.Shape.{SingleValue, isNull, isNoValue, isString}
-use Rattle.reading.specs.Space.{Space}
+use Rattle.reading.specs.Space.{Enough, NotForSpace, Space}
 use Rattle.reading.specs.Covering.{Gives, gives, refuses, weight, targetText, needs, pending, Covered}
 use Rattle.reading.proofs.Results.{gives-over, gives-map, gives-charge}
 use Rattle.reading.proofs.Rules.{Unfit, onMap, onSingle, onSequence, onString, onNull, Adding, Entering, at-path, append-obeys, insert-obeys, push-obeys, enter-obeys, map-obeys, sequence-obeys}
@@ -29,9 +29,9 @@ use Rattle.reading.proofs.Runs.{Ends, accepts, refusesAt, run-ends}
 use Rattle.reading.proofs.Takings.{endOf, end-later, tokens-end}
 use Rattle.reading.proofs.Outcomes.{reading-cases}
 
--- Neither 14 nor 15.
+-- None of 3, 14 and 15.
 abbrev Fine : Refusal → Type 0
-Fine x = T (not (eqb (code x) 14 || eqb (code x) 15))
+Fine x = T (not (eqb (code x) 3 || eqb (code x) 14 || eqb (code x) 15))
 
 unfit-fine : {x : Refusal} → Unfit x → Fine x
 unfit-fine onMap = tt
@@ -305,15 +305,16 @@ parsed-fine config (b ∷ s) lent h k =
     run-fine config lent (length (b ∷ s)) h k (tokens config (b ∷ s)) 0 (rootKey []) uninitialized 1 [] (omega (arith, tokens-end config (b ∷ s) 0))
     (record { records = omega arith; bytes = omega arith })
 
-not-for-space : (x : Refusal) → Fine x → (code x ≡ 14 → ⊥) × (code x ≡ 15 → ⊥)
-not-for-space x h = (λ e. absurd (rw e at h), λ e. absurd (rw e at h))
+not-for-space : (x : Refusal) → Fine x → NotForSpace (code x)
+not-for-space x h = record { first = λ e. absurd (rw e at h); records = λ e. absurd (rw e at h); text = λ e. absurd (rw e at h) }
 
-outcome-fine : (words bytes : ℕ) {a : Answer} → Ends (λ w i u. Unit) (λ x q. Fine x) a
-    → ((outcome words bytes a) .number ≡ 14 → ⊥) × ((outcome words bytes a) .number ≡ 15 → ⊥)
-outcome-fine words bytes (accepts h) = (λ e. omega arith, λ e. omega arith)
+outcome-fine : (words bytes : ℕ) {a : Answer} → Ends (λ w i u. Unit) (λ x q. Fine x) a → NotForSpace ((outcome words bytes a) .number)
+outcome-fine words bytes (accepts h) = record { first = λ e. omega arith; records = λ e. omega arith; text = λ e. omega arith }
 outcome-fine words bytes (refusesAt {x = x} h) = not-for-space x h
 
+-- Where n + 1 records are lent there is at least one, so that 3 isn't met either.
 pub space : Space
-space config input words text h k =
-    reading-cases (λ o. (o .number ≡ 14 → ⊥) × (o .number ≡ 15 → ⊥)) config input words text (λ e. omega arith, λ e. omega arith) (λ e. omega arith, λ e. omega arith)
-    (λ e. omega arith, λ e. omega arith) (λ e. outcome-fine (length words) (length text) (parsed-fine config input (lentBy words text) h k))
+space config input words text h =
+    reading-cases (λ o. NotForSpace (o .number)) config input words text (not-for-space tooDeep tt) (not-for-space tooLong tt)
+    (λ few. absurd (omega (arith, h .records)))
+    (λ e. outcome-fine (length words) (length text) (parsed-fine config input (lentBy words text) (h .records) (h .text)))

@@ -24,3 +24,4 @@ pub mod Growth
 pub mod Tests
 pub mod Starred
 pub mod Others
+pub mod Lost

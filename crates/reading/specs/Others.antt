@@ -1,8 +1,9 @@
--- Document 01, 'Tickets to try': those without a star, each under what document 01 says of it; then further ones, for the points where a
--- reader of document 01 goes wrong.
+-- Document 01, 'Tickets to try': those without a star, each under what document 01 says of it; then further ones, for
+-- the points where a reader of document 01 goes wrong.
 use mathlib.Core.List.{List, [], _∷_}
 use Rattle.config.specs.Defaults.{defaults}
-use Rattle.reading.specs.Tests.{holds, refuses, untouched, row, Test, test, usual, ampersands, atDepth, formOn, formAtDepth, AllPass}
+use Rattle.reading.specs.Tests.{holds, refuses, untouched, row, Test, test, usual, ampersands}
+use Rattle.reading.specs.Tests.{atDepth, formOn, formAtDepth, AllPass}
 
 abbrev pub others : List Test
 others =
@@ -30,6 +31,7 @@ others =
     usual "a[][b]=1" (refuses 12 4) ∷
     -- 13 at 4
     usual "a[]0=1" (refuses 13 4) ∷
+    usual "a[]]" (refuses 13 4) ∷
     -- 2 text bytes, 15 at 5
     test defaults 48 2 "ab=c" (refuses 15 5) ∷
     -- 3 suffice
@@ -42,12 +44,16 @@ others =
     ampersands 65536 (untouched 2) ∷
     -- An `&` past the first byte of a bracket's key; a Null that gets a second value.
     usual "a[b&c=d]=1" (holds (row 1 0 0 0 0 0 1 0 ∷ row 1 2 0 1 0 0 2 0 ∷ row 3 2 1 5 6 1 0 0 ∷ []) "ab&c=d1") ∷
-    usual "a=&a=1" (holds (row 1 0 0 0 0 0 1 0 ∷ row 2 2 0 1 0 0 2 0 ∷ row 4 0 0 0 0 0 0 3 ∷ row 3 0 0 0 1 1 0 0 ∷ []) "a1") ∷
+    usual "a=&a=1"
+    (holds (row 1 0 0 0 0 0 1 0 ∷ row 2 2 0 1 0 0 2 0 ∷ row 4 0 0 0 0 0 0 3 ∷ row 3 0 0 0 1 1 0 0 ∷ []) "a1") ∷
     -- The root takes the value before it needs a map; a bracket needs the map at its key's first byte.
     usual "=&a=" (refuses 10 5) ∷
     usual "=&a" (refuses 10 4) ∷
     usual "a=1&a[b" (refuses 9 7) ∷
     usual "a=1&a[" (refuses 4 7) ∷
+    -- The soonest refusal behind an accepted `a` and an `&`: two takings on.
+    usual "a" (holds (row 1 0 0 0 0 0 1 0 ∷ row 5 2 0 1 0 0 0 0 ∷ []) "a") ∷
+    usual "a&[" (refuses 4 4) ∷
     -- Entering is charged before the end refuses 4; a bracket's key only after the byte behind its `]`.
     test defaults 8 12 "a[" (refuses 14 2) ∷
     test defaults 48 0 "a[" (refuses 15 2) ∷
@@ -59,27 +65,40 @@ others =
     test defaults 8 0 "ab=c" (refuses 14 5) ∷
     test defaults 16 2 "ab=c&d=e" (refuses 15 5) ∷
     -- An existing key is charged nothing, also where it would not fit; what is not used is zero.
-    test defaults 32 2 "ab&%61b" (holds (row 1 0 0 0 0 0 1 0 ∷ row 2 2 0 2 0 0 2 0 ∷ row 5 0 0 0 0 0 0 3 ∷ row 5 0 0 0 0 0 0 0 ∷ []) "ab") ∷
-    test defaults 32 2 "a&a" (holds (row 1 0 0 0 0 0 1 0 ∷ row 2 2 0 1 0 0 2 0 ∷ row 5 0 0 0 0 0 0 3 ∷ row 5 0 0 0 0 0 0 0 ∷ []) "a") ∷
+    test defaults 32 2 "ab&%61b"
+    (holds (row 1 0 0 0 0 0 1 0 ∷ row 2 2 0 2 0 0 2 0 ∷ row 5 0 0 0 0 0 0 3 ∷ row 5 0 0 0 0 0 0 0 ∷ []) "ab") ∷
+    test defaults 32 2 "a&a"
+    (holds (row 1 0 0 0 0 0 1 0 ∷ row 2 2 0 1 0 0 2 0 ∷ row 5 0 0 0 0 0 0 3 ∷ row 5 0 0 0 0 0 0 0 ∷ []) "a") ∷
     -- Brackets under the flag.
     test formOn 48 12 "a[]%5B" (refuses 12 6) ∷
     test formOn 48 12 "a[b]%5D" (refuses 11 7) ∷
-    test formOn 48 12 "%%5Bx%5D=1" (holds (row 1 0 0 0 0 0 1 0 ∷ row 1 2 0 1 0 0 2 0 ∷ row 3 2 1 1 2 1 0 0 ∷ []) "%x1") ∷
+    test formOn 48 12 "%%5Bx%5D=1"
+    (holds (row 1 0 0 0 0 0 1 0 ∷ row 1 2 0 1 0 0 2 0 ∷ row 3 2 1 1 2 1 0 0 ∷ []) "%x1") ∷
     test formOn 48 12 "a=%%5B" (holds (row 1 0 0 0 0 0 1 0 ∷ row 3 2 0 1 1 4 0 0 ∷ []) "a%%5B") ∷
-    test (formAtDepth 1) 48 12 "a[b]%5Bc%5D=v" (holds (row 1 0 0 0 0 0 1 0 ∷ row 1 2 0 1 0 0 2 0 ∷ row 1 2 1 1 0 0 3 0 ∷ row 3 2 2 3 5 1 0 0 ∷ []) "ab[c]v") ∷
-    test (formAtDepth 1) 48 12 "a%5Bb%5D%5Bc%5D=1" (holds (row 1 0 0 0 0 0 1 0 ∷ row 1 2 0 1 0 0 2 0 ∷ row 1 2 1 1 0 0 3 0 ∷ row 3 2 2 3 5 1 0 0 ∷ []) "ab[c]1") ∷
+    test (formAtDepth 1) 48 12 "a[b]%5Bc%5D=v"
+    (holds (row 1 0 0 0 0 0 1 0 ∷ row 1 2 0 1 0 0 2 0 ∷ row 1 2 1 1 0 0 3 0 ∷ row 3 2 2 3 5 1 0 0 ∷ []) "ab[c]v") ∷
+    test (formAtDepth 1) 48 12 "a%5Bb%5D%5Bc%5D=1"
+    (holds (row 1 0 0 0 0 0 1 0 ∷ row 1 2 0 1 0 0 2 0 ∷ row 1 2 1 1 0 0 3 0 ∷ row 3 2 2 3 5 1 0 0 ∷ []) "ab[c]1") ∷
     -- At the depth.
-    test (atDepth 1) 48 12 "a[b][c" (holds (row 1 0 0 0 0 0 1 0 ∷ row 1 2 0 1 0 0 2 0 ∷ row 1 2 1 1 0 0 3 0 ∷ row 5 2 2 2 0 0 0 0 ∷ []) "ab[c") ∷
-    test (atDepth 1) 48 12 "a[b][==" (holds (row 1 0 0 0 0 0 1 0 ∷ row 1 2 0 1 0 0 2 0 ∷ row 1 2 1 1 0 0 3 0 ∷ row 4 2 2 2 0 0 0 0 ∷ []) "ab[=") ∷
-    test (atDepth 1) 48 12 "a[b][&c=1" (holds (row 1 0 0 0 0 0 1 0 ∷ row 1 2 0 1 0 0 2 0 ∷ row 1 2 1 1 0 0 3 0 ∷ row 3 2 2 3 5 1 0 0 ∷ []) "ab[&c1") ∷
-    test (atDepth 2) 48 12 "a[b][c]=v" (holds (row 1 0 0 0 0 0 1 0 ∷ row 1 2 0 1 0 0 2 0 ∷ row 1 2 1 1 0 0 3 0 ∷ row 3 2 2 1 3 1 0 0 ∷ []) "abcv") ∷
+    test (atDepth 1) 48 12 "a[b][c"
+    (holds (row 1 0 0 0 0 0 1 0 ∷ row 1 2 0 1 0 0 2 0 ∷ row 1 2 1 1 0 0 3 0 ∷ row 5 2 2 2 0 0 0 0 ∷ []) "ab[c") ∷
+    test (atDepth 1) 48 12 "a[b][=="
+    (holds (row 1 0 0 0 0 0 1 0 ∷ row 1 2 0 1 0 0 2 0 ∷ row 1 2 1 1 0 0 3 0 ∷ row 4 2 2 2 0 0 0 0 ∷ []) "ab[=") ∷
+    test (atDepth 1) 48 12 "a[b][&c=1"
+    (holds (row 1 0 0 0 0 0 1 0 ∷ row 1 2 0 1 0 0 2 0 ∷ row 1 2 1 1 0 0 3 0 ∷ row 3 2 2 3 5 1 0 0 ∷ []) "ab[&c1") ∷
+    test (atDepth 2) 48 12 "a[b][c]=v"
+    (holds (row 1 0 0 0 0 0 1 0 ∷ row 1 2 0 1 0 0 2 0 ∷ row 1 2 1 1 0 0 3 0 ∷ row 3 2 2 1 3 1 0 0 ∷ []) "abcv") ∷
     test (atDepth 0) 48 12 "a[b]=1" (holds (row 1 0 0 0 0 0 1 0 ∷ row 3 2 0 4 4 1 0 0 ∷ []) "a[b]1") ∷
-    -- Numbers and siblings: a value that moves into a Sequence; keys in key order, the empty one between Ints and other Strings.
-    usual "a=1&b=2&a=3" (holds (row 1 0 0 0 0 0 1 0 ∷ row 2 2 0 1 0 0 3 2 ∷ row 3 2 2 1 3 1 0 0 ∷ row 3 0 0 0 1 1 0 4 ∷ row 3 0 0 0 4 1 0 0 ∷ []) "a1b23") ∷
+    -- Numbers and siblings: a value that moves into a Sequence; keys in key order, the empty one between Ints and
+    -- other Strings.
+    usual "a=1&b=2&a=3"
+    (holds (row 1 0 0 0 0 0 1 0 ∷ row 2 2 0 1 0 0 3 2 ∷ row 3 2 2 1 3 1 0 0 ∷ row 3 0 0 0 1 1 0 4 ∷
+    row 3 0 0 0 4 1 0 0 ∷ []) "a1b23") ∷
     test defaults 64 12 "b=1&a=2&0=3&b=4&b=5"
-    (holds (row 1 0 0 0 0 0 3 0 ∷ row 2 2 0 1 0 0 4 0 ∷ row 3 2 2 1 3 1 0 1 ∷ row 3 1 0 0 4 1 0 2 ∷ row 3 0 0 0 1 1 0 5 ∷ row 3 0 0 0 5 1 0
-    6 ∷ row 3 0 0 0 6 1 0 0 ∷ []) "b1a2345") ∷
-    usual "[b]=1&[0]=2&=3" (holds (row 1 0 0 0 0 0 2 0 ∷ row 3 2 0 1 1 1 0 0 ∷ row 3 1 0 0 2 1 0 3 ∷ row 3 2 0 0 3 1 0 1 ∷ []) "b123") ∷
+    (holds (row 1 0 0 0 0 0 3 0 ∷ row 2 2 0 1 0 0 4 0 ∷ row 3 2 2 1 3 1 0 1 ∷ row 3 1 0 0 4 1 0 2 ∷
+    row 3 0 0 0 1 1 0 5 ∷ row 3 0 0 0 5 1 0 6 ∷ row 3 0 0 0 6 1 0 0 ∷ []) "b1a2345") ∷
+    usual "[b]=1&[0]=2&=3"
+    (holds (row 1 0 0 0 0 0 2 0 ∷ row 3 2 0 1 1 1 0 0 ∷ row 3 1 0 0 2 1 0 3 ∷ row 3 2 0 0 3 1 0 1 ∷ []) "b123") ∷
     usual "[x]=1&[]=2" (refuses 6 8) ∷
     usual "[]=1&=2&a" (refuses 8 10) ∷
     usual "=1&=2" (holds (row 2 0 0 0 0 0 1 0 ∷ row 3 0 0 0 0 1 0 2 ∷ row 3 0 0 0 1 1 0 0 ∷ []) "12") ∷

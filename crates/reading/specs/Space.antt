@@ -1,16 +1,27 @@
--- Demand 1: for an input of n bytes n + 1 records and n text bytes suffice. No reading that is lent as much is refused by 14 or 15. Proved
--- in proofs/Space as `space`.
+-- Demand 1: an input of n bytes that is lent n + 1 records and n text bytes is never refused for space. Proved in
+-- proofs/Space as `space`.
 use Prim.Native.Nat.{ℕ, _+_, _≤_}
 use mathlib.Core.Path.{_≡_}
 use mathlib.Core.List.{List}
 use lib.ListN.{length}
 use Rattle.config.specs.declared.Config.{Config}
-use Rattle.reading.specs.Refusals.{code, tooFewRecords, tooLittleText}
+use Rattle.reading.specs.Refusals.{code, noRecord, tooFewRecords, tooLittleText}
+use Rattle.reading.specs.Charging.{Lent}
 use Rattle.reading.specs.Reading.{lentBy, reading}
+
+-- n + 1 records and n text bytes, or more, are lent for an input of n bytes.
+pub record Enough (input : List ℕ) (lent : Lent) : Type 0 where
+  pub records : length input + 1 ≤ lent .records
+  pub text : length input ≤ lent .bytes
+
+-- The number of a reading that isn't refused for space: neither for lack of the first record (3), nor of a further one
+-- (14), nor of text (15).
+pub record NotForSpace (number : ℕ) : Type 0 where
+  pub first : number ≡ code noRecord → ⊥
+  pub records : number ≡ code tooFewRecords → ⊥
+  pub text : number ≡ code tooLittleText → ⊥
 
 abbrev pub Space : Type 0
 Space =
     (config : Config) (input words text : List ℕ)
-    → length input + 1 ≤ (lentBy words text) .records → length input ≤ (lentBy words text) .bytes
-    → ((reading config input words text) .number ≡ code tooFewRecords → ⊥)
-    × ((reading config input words text) .number ≡ code tooLittleText → ⊥)
+    → Enough input (lentBy words text) → NotForSpace ((reading config input words text) .number)

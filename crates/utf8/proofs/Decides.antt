@@ -8,7 +8,7 @@ use native.Mathlib.Omega.{arith}
 use lib.Dec.{eqb·suc-zero}
 use Rattle.laws.proofs.Cases.{below, true-false}
 use Rattle.utf8.specs.declared.Due.{Due}
-use Rattle.utf8.specs.Decides.{Decides}
+use Rattle.utf8.specs.Decides.{TestDecides}
 use Rattle.utf8.specs.Grammar.{Between, Utf8, none, more}
 use Rattle.utf8.specs.Grammar.{Char, utf8-1, utf8-2, utf8-3-E0, utf8-3-E1-EC, utf8-3-ED, utf8-3-EE-EF, utf8-4-F0, utf8-4-F1-F3, utf8-4-F4}
 use Rattle.utf8.specs.Test.{due, tails, refused, second, first, next, run, utf8}
@@ -152,5 +152,5 @@ sound s e = whole (rest s 0 0x80 0xBF e)
     whole : {s : List ℕ} → After (tails 0) Utf8 s → Utf8 s
     whole (done u) = u
 
-pub decides : (s : List ℕ) → Decides (utf8 s) s
+pub decides : TestDecides
 decides s = record { sound = sound s; complete = complete }

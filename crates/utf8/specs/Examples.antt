@@ -1,7 +1,9 @@
--- Byte sequences of RFC 3629, each with whether it is UTF-8.
+-- Byte sequences of RFC 3629, each with whether it is UTF-8, decided together in proofs/Examples.
 use Prim.Native.Nat.{ℕ}
-use mathlib.Core.List.{List, [], _∷_}
+use mathlib.Core.Path.{_≡_}
+use mathlib.Core.List.{List, [], _∷_, map}
 use mathlib.Core.Bool.{Bool, true, false}
+use Rattle.utf8.specs.Test.{utf8}
 
 abbrev pub examples : List (List ℕ × Bool)
 examples =
@@ -30,3 +32,7 @@ examples =
     -- a first byte with no tail
     ∷ (0xC3 ∷ [], false)
     ∷ []
+
+-- The test answers each as it says.
+abbrev pub ExamplesPass : Type 0
+ExamplesPass = map (λ e. utf8 (e .0)) examples ≡ map (λ e. e .1) examples

@@ -2,6 +2,8 @@
 #![allow(dead_code)]
 
 pub mod inputs;
+pub mod programs;
+pub mod rows;
 pub mod whatwg;
 
 use std::io::Write;

@@ -27,11 +27,14 @@ list-answer-requires c κs =
     few-listed (start .args .config) (start .args .input .now) (start .args .words .now) (start .args .text .now) _ _ (at-parse .parse .ensures)
     (at-records .records .given .1) (start .args .duplicates) (start .args .name .now) _ (at-field-list .field-list .ensures)
 
+clear-after-requires : tie.Need-clear-after-requires
+clear-after-requires c κs = search needs
+
 enum-known-number : tie.Need-enum-known-number
 enum-known-number c = search needs
 
-clear-after-requires : tie.Need-clear-after-requires
-clear-after-requires c κs = search needs
+clear-after-requires-2 : tie.Need-clear-after-requires-2
+clear-after-requires-2 c κs = search needs
 
 cast-refused : tie.Need-cast-refused
 cast-refused c =
@@ -58,13 +61,15 @@ same-length-3 c = search needs
 
 returns : tie.Need-returns
 returns c =
-    let at-field-list = c .before .before .before in
+    let at-clear-after = c .before .before in
+    let at-list-answer = at-clear-after .before .before in
+    let at-field-list = at-list-answer .before .before .before in
     let at-records = at-field-list .before .before .before .before .before in
     let at-parse = at-records .before .before .before .before .before .before in
     let start = at-parse .before .before .before .before .before .before .before .before in
     list-accepted (start .args .config) (start .args .input .now) (start .args .words .now) (start .args .text .now) _ _ (at-parse .parse .ensures)
-    (at-records .records .given .1) (start .args .duplicates) (start .args .name .now) (start .args .list .now) _ (c .list-answer .ensures)
-    (at-field-list .field-list .ensures)
+    (at-records .records .given .1) (start .args .duplicates) (start .args .name .now) (start .args .list .now) _ _
+    (at-list-answer .list-answer .ensures) (at-field-list .field-list .ensures) (at-clear-after .clear-after .ensures)
 
 same-length-4 : tie.Need-same-length-4
 same-length-4 c = search needs
@@ -83,7 +88,7 @@ returns-2 c =
     let start = at-parse .before .before .before .before .before .before .before .before in
     list-refused (start .args .config) (start .args .input .now) (start .args .words .now) (start .args .text .now) _ _ (at-parse .parse .ensures)
     (at-number .number .given .1) (start .args .duplicates) (start .args .name .now) (start .args .list .now) _ (c .refused .ensures)
-    (at-clear-after .clear-after .ensures)
+    (at-clear-after .clear-after2 .ensures)
 
 pub deserialize-seq-spec : {M : Type 1} → statement M
 deserialize-seq-spec =
@@ -93,8 +98,9 @@ deserialize-seq-spec =
     enum-known-records
     field-list-requires
     list-answer-requires
-    enum-known-number
     clear-after-requires
+    enum-known-number
+    clear-after-requires-2
     cast-refused
     refused-requires
     same-length

@@ -14,8 +14,8 @@ root-field-requires c κs = search needs
 enum-known-n : tie.Need-enum-known-n
 enum-known-n c = search needs
 
-read-or-clear-requires : tie.Need-read-or-clear-requires
-read-or-clear-requires c κs =
+read-list-requires : tie.Need-read-list-requires
+read-list-requires c κs =
     let at-n = c .before .before in
     let at-root-field = at-n .before .before in
     let at-clear-words = at-root-field .before .before .before in
@@ -36,13 +36,13 @@ same-length c = search needs
 
 returns : tie.Need-returns
 returns c =
-    let at-read-or-clear = c .before .before in
-    let at-n = at-read-or-clear .before .before .before in
+    let at-read-list = c .before .before in
+    let at-n = at-read-list .before .before .before in
     let at-root-field = at-n .before .before in
     let at-clear-words = at-root-field .before .before .before in
     let start = at-clear-words .before .before .before .before .before .before in
     field-found (start .args .duplicates) (start .args .words .now) (start .args .text .now) (start .args .list .now) (at-clear-words .clear-words .ensures)
-    (sym (at-root-field .root-field .ensures) ∙ at-n .n .given .1) (at-read-or-clear .read-or-clear .ensures)
+    (sym (at-root-field .root-field .ensures) ∙ at-n .n .given .1) (at-read-list .read-list .ensures)
 
 same-length-2 : tie.Need-same-length-2
 same-length-2 c = search needs
@@ -62,7 +62,7 @@ field-list-spec =
     clear-words-requires
     root-field-requires
     enum-known-n
-    read-or-clear-requires
+    read-list-requires
     enum-known-refusal
     same-length
     returns
