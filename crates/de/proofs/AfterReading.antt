@@ -16,18 +16,19 @@ use Rattle.reading.specs.Reading.{Outcome, lentBy, parsed, outcome, reading}
 use Rattle.reading.proofs.Laying.{laid-more}
 use Rattle.reading.proofs.Outcomes.{Sound, of-accepted}
 use Rattle.reading.proofs.Placed.{placed}
-use Rattle.records.specs.Store.{recordCount}
+use Rattle.row.specs.Words.{recordCount}
 use Rattle.records.proofs.Forests.{indicator-same}
 use Rattle.de.specs.declared.DuplicateKeyBehavior.{DuplicateKeyBehavior}
 use Rattle.de.specs.declared.FieldRead.{FieldRead}
-use Rattle.de.specs.declared.refusals.Refusal.{Refusal}
-use Rattle.de.specs.declared.refusals.Refusal.the-variants.{WrongRoot, NoSuchField, WrongKind, SeveralValues, MissingIndex, NotUtf8, ShortSlice}
+use Rattle.refusals.specs.declared.Refusal.{Refusal}
+use Rattle.refusals.specs.declared.Refusal.the-variants.{WrongRoot, NoSuchField, WrongKind, SeveralValues, MissingIndex}
+use Rattle.refusals.specs.declared.Refusal.the-variants.{NotUtf8, ShortSlice}
 use Rattle.de.specs.declared.text.TextRead.{TextRead}
 use Rattle.de.specs.declared.list.ListRead.{ListRead}
 use Rattle.parse.specs.declared.Parsed.{Parsed}
 use Rattle.parse.specs.declared.Parsed.the-variants.{Accepted, Refused}
 use Rattle.parse.specs.Outcomes.{outcomeOf}
-use Rattle.de.specs.Refusals.{code}
+use Rattle.refusals.specs.Codes.{code}
 use Rattle.de.specs.Fields.{rootField}
 use Rattle.de.specs.Lists.{Listed}
 use Rattle.de.specs.Reads.{TextOutcome, ListOutcome, textAnswer, textOfField, textAfter, textRead, listAnswer, listWords, listOfField, listAfter, listRead}

@@ -13,8 +13,8 @@ use Rattle.reading.specs.Records.{kind, textOffset, textLength}
 use Rattle.reading.specs.Laid.{LaidLabel, Laid, LaidAll}
 use Rattle.reading.proofs.Laying.{lies-part}
 use Rattle.records.specs.declared.store.Record.{Record as RecordWords}
-use Rattle.records.specs.Words.{kindWord, keyKindWord, keyWord, keyLengthWord, textWord, textLengthWord, nextWord}
-use Rattle.records.specs.Store.{recordCount, word}
+use Rattle.row.specs.Row.{kindWord, keyKindWord, keyWord, keyLengthWord, textWord, textLengthWord, nextWord}
+use Rattle.row.specs.Words.{recordCount, word}
 use Rattle.records.specs.Records.{keyWordsAt, valueAt}
 use Rattle.records.specs.Siblings.{children, lastOf}
 use Rattle.records.specs.Nodes.{first, size, count}
@@ -23,8 +23,8 @@ use Rattle.records.proofs.Forests.{indicator-same, numbers, chain-numbers, numb
 use Rattle.tree.specs.Nodes.{labelWords, recordOf, below, nodes}
 use Rattle.de.specs.declared.DuplicateKeyBehavior.{DuplicateKeyBehavior}
 use Rattle.de.specs.declared.DuplicateKeyBehavior.the-variants.{TakeLast, Error}
-use Rattle.de.specs.declared.refusals.Refusal.{Refusal}
-use Rattle.de.specs.declared.refusals.Refusal.the-variants.{NoSuchField, WrongKind, SeveralValues}
+use Rattle.refusals.specs.declared.Refusal.{Refusal}
+use Rattle.refusals.specs.declared.Refusal.the-variants.{NoSuchField, WrongKind, SeveralValues}
 use Rattle.de.specs.declared.field.FieldAt.{FieldAt}
 use Rattle.de.specs.declared.field.FieldAt.the-variants.{Record, Refused as RefusedField}
 use Rattle.de.specs.declared.text.TextRead.{TextRead}

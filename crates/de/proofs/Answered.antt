@@ -12,19 +12,20 @@ use Rattle.utf8.specs.Grammar.{Utf8}
 use Rattle.utf8.specs.Grammar as grammar
 use Rattle.utf8.proofs.Decides.{decides}
 use Rattle.reading.specs.Values.{unkeyed, Value, uninitialized, null, noValue, string, map, sequence, Forest, none, child}
-use Rattle.reading.specs.Buffers.{textPart}
+use Rattle.row.specs.Words.{textPart}
 use Rattle.reading.specs.Laid.{Laid, LaidAll}
-use Rattle.reading.specs.Refusals.{Refusal as ReadingRefusal}
+use Rattle.refusals.specs.declared.Refusal.the-variants.{Refusal as ReadingRefusal}
 use Rattle.reading.specs.Running.{Answer, accepted, refusedAt, Accepts, accepts}
 use Rattle.reading.specs.Reading.{Outcome, lentBy, parsed, reading}
 use Rattle.reading.proofs.Laying.{laid-more, lies-part}
 use Rattle.reading.proofs.Outcomes.{of-accepted}
 use Rattle.de.specs.declared.DuplicateKeyBehavior.{DuplicateKeyBehavior}
-use Rattle.de.specs.declared.refusals.Refusal.{Refusal}
-use Rattle.de.specs.declared.refusals.Refusal.the-variants.{WrongRoot, NoSuchField, WrongKind, SeveralValues, MissingIndex, NotUtf8, ShortSlice}
+use Rattle.refusals.specs.declared.Refusal.{Refusal}
+use Rattle.refusals.specs.declared.Refusal.the-variants.{WrongRoot, NoSuchField, WrongKind, SeveralValues, MissingIndex}
+use Rattle.refusals.specs.declared.Refusal.the-variants.{NotUtf8, ShortSlice}
 use Rattle.de.specs.declared.text.TextRead.{TextRead}
 use Rattle.de.specs.declared.text.TextRead.the-variants.{Text, Refused}
-use Rattle.de.specs.Refusals.{code}
+use Rattle.refusals.specs.Codes.{code}
 use Rattle.de.specs.Fields.{Field, found, isNamed, named, rootField}
 use Rattle.de.specs.Texts.{singleText, lastText, several, textOf}
 use Rattle.de.specs.Lists.{Listed, listed, prepend, isNext, elementText, inTurn, childCount, elements, intKeys, listOf}

@@ -11,12 +11,13 @@ use lib.ListN.{length, getD, take, drop, drop-of-length-le}
 use borrow.Author.Tests.{eq-eqb, ne-eqb}
 use Rattle.laws.proofs.Cases.{split}
 use Rattle.laws.proofs.Lists.{drop-1}
-use Rattle.records.specs.Words.{kindWord, keyKindWord, keyWord, keyLengthWord, nextWord, uninitializedKind, mapKind, sequenceKind, stringKind, stringKeyKind}
-use Rattle.records.specs.Store.{recordCount, word}
+use Rattle.row.specs.Row.{kindWord, keyKindWord, keyWord, keyLengthWord, nextWord, uninitializedKind, mapKind}
+use Rattle.row.specs.Row.{sequenceKind, stringKind, stringKeyKind}
+use Rattle.row.specs.Words.{recordCount, word}
 use Rattle.records.specs.Records.{keyWordsAt}
 use Rattle.records.specs.Keys.{InText}
 use Rattle.records.specs.Siblings.{children, Within, Linked}
-use Rattle.de.specs.declared.refusals.Refusal.the-variants.{WrongRoot, NoSuchField}
+use Rattle.refusals.specs.declared.Refusal.the-variants.{WrongRoot, NoSuchField}
 use Rattle.de.specs.declared.field.FieldAt.{FieldAt}
 use Rattle.de.specs.declared.field.FieldAt.the-variants.{Record, Refused}
 use Rattle.de.specs.Fields.{sameBytes}

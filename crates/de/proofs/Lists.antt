@@ -9,13 +9,13 @@ use native.Mathlib.Numerals.{add-one}
 use lib.ListN.{length, set, replicate, length-append, length-replicate}
 use lib.Seq.{set-at}
 use borrow.Author.Tests.{lt-ltb, le-ltb}
-use Rattle.records.specs.Words.{keyKindWord, intKeyKind, childWord, nextWord}
-use Rattle.records.specs.Store.{recordCount, word}
+use Rattle.row.specs.Row.{keyKindWord, intKeyKind, childWord, nextWord}
+use Rattle.row.specs.Words.{recordCount, word}
 use Rattle.records.specs.Siblings.{chain, children, Ends, Linked}
 use Rattle.records.proofs.Chains.{chain-end, step, ends-next, children-end}
 use Rattle.de.specs.declared.DuplicateKeyBehavior.{DuplicateKeyBehavior}
-use Rattle.de.specs.declared.refusals.Refusal.{Refusal}
-use Rattle.de.specs.declared.refusals.Refusal.the-variants.{ShortSlice}
+use Rattle.refusals.specs.declared.Refusal.{Refusal}
+use Rattle.refusals.specs.declared.Refusal.the-variants.{ShortSlice}
 use Rattle.de.specs.declared.field.FieldAt.{FieldAt}
 use Rattle.de.specs.declared.field.FieldAt.the-variants.{Record, Refused as RefusedField}
 use Rattle.de.specs.declared.text.TextRead.the-variants.{Text, Refused}

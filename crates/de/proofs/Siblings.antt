@@ -3,8 +3,8 @@ use Prim.Native.Nat.{ℕ, _<_}
 use mathlib.Core.Path.{_≡_, refl, ap, sym, _∙_}
 use mathlib.Core.Logic.{_≢_}
 use mathlib.Core.List.{List, [], _∷_}
-use Rattle.records.specs.Words.{childWord, nextWord}
-use Rattle.records.specs.Store.{recordCount, word}
+use Rattle.row.specs.Row.{childWord, nextWord}
+use Rattle.row.specs.Words.{recordCount, word}
 use Rattle.records.specs.Siblings.{chain, children, Ends, Linked}
 use Rattle.records.proofs.Chains.{chain-end, step, ends-next, children-end}
 

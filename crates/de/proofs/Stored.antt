@@ -8,7 +8,7 @@ use borrow.Author.Tests.{ltb-true, ltb-false}
 use lib.Dec.{ltb}
 use lib.ListN.{length, getD, replicate, length-append, length-replicate}
 use lib.Seq.{getD-append-add}
-use Rattle.config.specs.Limits.{recordWidth}
+use Rattle.row.specs.Row.{recordWidth}
 use Rattle.laws.proofs.Cases.{split, below as by-order}
 use Rattle.laws.proofs.Lists.{zeros}
 use Rattle.reading.specs.Values.{Label, unkeyed, intKey, stringKey, Value, uninitialized, null, noValue, string, map, sequence, Forest, none, child}
@@ -23,8 +23,8 @@ use Rattle.reading.proofs.Laying.{laid-more}
 use Rattle.reading.proofs.Layouts.{Row as LaidRow, Rows, RowsAll, records-length, root-row, layout-rows}
 use Rattle.reading.proofs.Outcomes.{Sound}
 use Rattle.records.specs.declared.store.Record.{Record}
-use Rattle.records.specs.Words.{textWord, textLengthWord}
-use Rattle.records.specs.Store.{recordCount, word}
+use Rattle.row.specs.Row.{textWord, textLengthWord}
+use Rattle.row.specs.Words.{recordCount, word}
 use Rattle.records.specs.Records.{keyWordsAt, valueAt, recordAt}
 use Rattle.records.specs.Keys.{InText}
 use Rattle.records.specs.Nodes.{Nodes, nil, node, first as firstNode, size, indicator, count}

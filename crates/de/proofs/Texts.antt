@@ -7,11 +7,11 @@ use mathlib.Core.List.{List}
 use native.Mathlib.Nat.{add-sub-cancel-left}
 use lib.ListN.{take, drop}
 use Rattle.utf8.specs.Test.{utf8}
-use Rattle.records.specs.Words.{textWord, textLengthWord, childWord}
-use Rattle.records.specs.Store.{recordCount, word}
+use Rattle.row.specs.Row.{textWord, textLengthWord, childWord}
+use Rattle.row.specs.Words.{recordCount, word}
 use Rattle.records.specs.Siblings.{Linked}
 use Rattle.records.proofs.Chains.{is-record, children-end}
-use Rattle.de.specs.declared.refusals.Refusal.the-variants.{NotUtf8}
+use Rattle.refusals.specs.declared.Refusal.the-variants.{NotUtf8}
 use Rattle.de.specs.declared.text.TextRead.the-variants.{Text, Refused}
 use Rattle.de.specs.OnRecords.{stringTextAt}
 

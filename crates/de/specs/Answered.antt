@@ -6,7 +6,7 @@ use mathlib.Core.List.{List}
 use lib.ListN.{getD}
 use Rattle.config.specs.declared.Config.{Config}
 use Rattle.utf8.specs.Grammar.{Utf8}
-use Rattle.reading.specs.Buffers.{textPart}
+use Rattle.row.specs.Words.{textPart}
 use Rattle.de.specs.declared.DuplicateKeyBehavior.{DuplicateKeyBehavior}
 use Rattle.de.specs.Reads.{TextOutcome, textRead, ListOutcome, listRead}
 

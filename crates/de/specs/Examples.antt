@@ -6,7 +6,8 @@ use mathlib.Core.Path.{_≡_}
 use mathlib.Core.List.{List, [], _∷_, map}
 use Rattle.config.specs.declared.Config.{Config}
 use Rattle.config.specs.Defaults.{defaults}
-use Rattle.reading.specs.Tests.{ascii, atDepth, before}
+use Rattle.ascii.specs.Texts.{ascii}
+use Rattle.reading.specs.Tests.{atDepth, before}
 use Rattle.de.specs.declared.DuplicateKeyBehavior.{DuplicateKeyBehavior}
 use Rattle.de.specs.declared.DuplicateKeyBehavior.the-variants.{TakeLast, Error}
 use Rattle.de.specs.declared.FieldRead.{FieldRead}

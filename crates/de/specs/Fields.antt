@@ -4,8 +4,8 @@ use mathlib.Core.Bool.{Bool, true, false, cond}
 use mathlib.Core.List.{List, [], _∷_}
 use lib.Dec.{eqb}
 use Rattle.reading.specs.Values.{Label, unkeyed, intKey, stringKey, Value, uninitialized, null, noValue, string, map, sequence, Forest, none, child}
-use Rattle.de.specs.declared.refusals.Refusal.{Refusal}
-use Rattle.de.specs.declared.refusals.Refusal.the-variants.{WrongRoot, NoSuchField}
+use Rattle.refusals.specs.declared.Refusal.{Refusal}
+use Rattle.refusals.specs.declared.Refusal.the-variants.{WrongRoot, NoSuchField}
 
 -- The field's value, or a refusal.
 pub data Field : Type 0 where

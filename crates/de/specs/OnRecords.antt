@@ -7,17 +7,17 @@ use mathlib.Core.List.{List, [], _∷_, _++_}
 use lib.Dec.{eqb, ltb}
 use lib.ListN.{length, replicate}
 use Rattle.utf8.specs.Test.{utf8}
-use Rattle.reading.specs.Buffers.{textPart}
-use Rattle.records.specs.Words.{kindWord, keyKindWord, keyWord, keyLengthWord, textWord, textLengthWord, childWord}
-use Rattle.records.specs.Words.{nextWord, uninitializedKind, mapKind, sequenceKind, stringKind, nullKind, noValueKind}
-use Rattle.records.specs.Words.{noKeyKind, intKeyKind, stringKeyKind}
-use Rattle.records.specs.Store.{recordCount, word}
+use Rattle.row.specs.Words.{textPart}
+use Rattle.row.specs.Row.{kindWord, keyKindWord, keyWord, keyLengthWord, textWord, textLengthWord, childWord}
+use Rattle.row.specs.Row.{nextWord, uninitializedKind, mapKind, sequenceKind, stringKind, nullKind, noValueKind}
+use Rattle.row.specs.Row.{noKeyKind, intKeyKind, stringKeyKind}
+use Rattle.row.specs.Words.{recordCount, word}
 use Rattle.records.specs.Siblings.{children, lastOf, WellFormed}
 use Rattle.de.specs.declared.DuplicateKeyBehavior.{DuplicateKeyBehavior}
 use Rattle.de.specs.declared.DuplicateKeyBehavior.the-variants.{TakeLast, Error}
-use Rattle.de.specs.declared.refusals.Refusal.{Refusal}
-use Rattle.de.specs.declared.refusals.Refusal.the-variants.{WrongRoot, NoSuchField, WrongKind, SeveralValues}
-use Rattle.de.specs.declared.refusals.Refusal.the-variants.{MissingIndex, NotUtf8, ShortSlice}
+use Rattle.refusals.specs.declared.Refusal.{Refusal}
+use Rattle.refusals.specs.declared.Refusal.the-variants.{WrongRoot, NoSuchField, WrongKind, SeveralValues}
+use Rattle.refusals.specs.declared.Refusal.the-variants.{MissingIndex, NotUtf8, ShortSlice}
 use Rattle.de.specs.declared.field.FieldAt.{FieldAt}
 use Rattle.de.specs.declared.field.FieldAt.the-variants.{Record, Refused as RefusedField}
 use Rattle.de.specs.declared.text.TextRead.{TextRead}

@@ -11,10 +11,10 @@ use Rattle.reading.specs.Running.{Answer, accepted, refusedAt}
 use Rattle.reading.specs.Reading.{Outcome, lentBy, parsed, reading}
 use Rattle.de.specs.declared.DuplicateKeyBehavior.{DuplicateKeyBehavior}
 use Rattle.de.specs.declared.FieldRead.{FieldRead}
-use Rattle.de.specs.declared.refusals.Refusal.{Refusal}
+use Rattle.refusals.specs.declared.Refusal.{Refusal}
 use Rattle.de.specs.declared.text.TextRead.{TextRead}
 use Rattle.de.specs.declared.text.TextRead.the-variants.{Text, Refused}
-use Rattle.de.specs.Refusals.{code}
+use Rattle.refusals.specs.Codes.{code}
 use Rattle.de.specs.Fields.{Field, found, refused, rootField}
 use Rattle.de.specs.Texts.{textOf}
 use Rattle.de.specs.Lists.{Listed, listed, listOf}

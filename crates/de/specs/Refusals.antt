@@ -1,7 +1,8 @@
 -- Document 01, 'Field reads': "Numbers after 1 to 15".
 use Prim.Native.Nat.{ℕ}
-use Rattle.de.specs.declared.refusals.Refusal.{Refusal}
-use Rattle.de.specs.declared.refusals.Refusal.the-variants.{WrongRoot, NoSuchField, WrongKind, SeveralValues, MissingIndex, NotUtf8, ShortSlice}
+use Rattle.refusals.specs.declared.Refusal.{Refusal}
+use Rattle.refusals.specs.declared.Refusal.the-variants.{WrongRoot, NoSuchField, WrongKind, SeveralValues, MissingIndex}
+use Rattle.refusals.specs.declared.Refusal.the-variants.{NotUtf8, ShortSlice}
 
 abbrev pub code : Refusal → ℕ
 -- "root Sequence or Uninitialized", "no such field", "field of the wrong kind"

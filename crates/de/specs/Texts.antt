@@ -5,7 +5,7 @@ use Rattle.utf8.specs.Test.{utf8}
 use Rattle.reading.specs.Values.{Value, uninitialized, null, noValue, string, map, sequence, Forest, none, child}
 use Rattle.de.specs.declared.DuplicateKeyBehavior.{DuplicateKeyBehavior}
 use Rattle.de.specs.declared.DuplicateKeyBehavior.the-variants.{TakeLast, Error}
-use Rattle.de.specs.declared.refusals.Refusal.the-variants.{WrongKind, SeveralValues, NotUtf8}
+use Rattle.refusals.specs.declared.Refusal.the-variants.{WrongKind, SeveralValues, NotUtf8}
 use Rattle.de.specs.declared.text.TextRead.{TextRead}
 use Rattle.de.specs.declared.text.TextRead.the-variants.{Text, Refused}
 

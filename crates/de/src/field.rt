@@ -1,7 +1,7 @@
 // The field of a name in the root.
 ghost use mathlib.Core.Path.{_≡_};
 ghost use Prim.Native.Nat.{_<_};
-ghost use Rattle.records.specs.Store.{recordCount};
+ghost use Rattle.row.specs.Words.{recordCount};
 ghost use Rattle.records.specs.Siblings.{children};
 ghost use Rattle.de.specs.Fields.{sameBytes};
 ghost use Rattle.de.specs.OnRecords.{Readable, isNamedAt, namedAt, fieldAt};
@@ -38,10 +38,10 @@ fn is_named(words: &[u32], text: &[u8], n: u32, name: &[u8]) -> bool
     requires { ⌜ Readable (now words) (now text) ⌝ ∗ ⌜ n < recordCount (now words) ⌝ }
     ensures { λ r. ⌜ r ≡ isNamedAt (now (words .entry)) (now (text .entry)) (now (name .entry)) n ⌝ }
 {
-    let kind = store::get_word(words, n, store::KEY_KIND);
-    if kind == store::STRING_KEY {
-        let start = store::get_word(words, n, store::KEY) as usize;
-        let end = start + store::get_word(words, n, store::KEY_LEN) as usize;
+    let kind = row::get_word(words, n, row::KEY_KIND);
+    if kind == row::STRING_KEY {
+        let start = row::get_word(words, n, row::KEY) as usize;
+        let end = start + row::get_word(words, n, row::KEY_LEN) as usize;
         return same_bytes(&text[start..end], name);
     }
     false
@@ -52,12 +52,12 @@ fn find_named(words: &[u32], text: &[u8], name: &[u8]) -> FieldAt
     requires { ⌜ Readable (now words) (now text) ⌝ ∗ ⌜ 0 < recordCount (now words) ⌝ }
     ensures { λ r. ⌜ r ≡ namedAt (now (words .entry)) (now (text .entry)) (now (name .entry)) (children (now (words .entry)) 0) ⌝ }
 {
-    let mut cur = store::get_word(words, 0, store::CHILD);
+    let mut cur = row::get_word(words, 0, row::CHILD);
     while cur != 0 {
         if is_named(words, text, cur, name) {
             return FieldAt::Record(cur);
         }
-        cur = store::get_word(words, cur, store::NEXT);
+        cur = row::get_word(words, cur, row::NEXT);
     }
     FieldAt::Refused(Refusal::NoSuchField)
 }
@@ -68,20 +68,20 @@ pub(crate) fn root_field(words: &[u32], text: &[u8], name: &[u8]) -> FieldAt
     requires { ⌜ Readable (now words) (now text) ⌝ ∗ ⌜ 0 < recordCount (now words) ⌝ }
     ensures { λ r. ⌜ r ≡ fieldAt (now (words .entry)) (now (text .entry)) (now (name .entry)) ⌝ }
 {
-    let kind = store::get_word(words, 0, store::KIND);
-    if kind == store::MAP {
+    let kind = row::get_word(words, 0, row::KIND);
+    if kind == row::MAP {
         return find_named(words, text, name);
     }
-    if kind == store::STRING {
+    if kind == row::STRING {
         if name.len() == 0 {
             return FieldAt::Record(0);
         }
         return FieldAt::Refused(Refusal::NoSuchField);
     }
-    if kind == store::SEQUENCE {
+    if kind == row::SEQUENCE {
         return FieldAt::Refused(Refusal::WrongRoot);
     }
-    if kind == store::UNINITIALIZED {
+    if kind == row::UNINITIALIZED {
         return FieldAt::Refused(Refusal::WrongRoot);
     }
     FieldAt::Refused(Refusal::NoSuchField)

@@ -2,7 +2,7 @@
 ghost use mathlib.Core.Path.{_≡_};
 ghost use Prim.Native.Nat.{_+_, _*_, _≤_, _<_};
 ghost use lib.ListN.{length, set, replicate};
-ghost use Rattle.records.specs.Store.{recordCount};
+ghost use Rattle.row.specs.Words.{recordCount};
 ghost use Rattle.records.specs.Siblings.{children, Linked};
 ghost use Rattle.de.specs.OnRecords.{Readable, intKeysAt, isNextAt, elementAt, inTurnAt, elementsAt};
 ghost use Rattle.de.specs.OnRecords.{oneAt, listAt, fieldAt, fieldListAt, Writes};
@@ -35,13 +35,13 @@ fn has_int_keys(words: &[u32], n: u32) -> bool
     requires { ⌜ Linked (now words) ⌝ ∗ ⌜ n < recordCount (now words) ⌝ }
     ensures { λ r. ⌜ r ≡ intKeysAt (now (words .entry)) (children (now (words .entry)) n) ⌝ }
 {
-    let mut cur = store::get_word(words, n, store::CHILD);
+    let mut cur = row::get_word(words, n, row::CHILD);
     while cur != 0 {
-        let kind = store::get_word(words, cur, store::KEY_KIND);
-        if kind != store::INT_KEY {
+        let kind = row::get_word(words, cur, row::KEY_KIND);
+        if kind != row::INT_KEY {
             return false;
         }
-        cur = store::get_word(words, cur, store::NEXT);
+        cur = row::get_word(words, cur, row::NEXT);
     }
     true
 }
@@ -52,10 +52,10 @@ fn count_children(words: &[u32], n: u32) -> usize
     ensures { λ r. ⌜ r ≡ length (children (now (words .entry)) n) ⌝ }
 {
     let mut count: usize = 0;
-    let mut cur = store::get_word(words, n, store::CHILD);
+    let mut cur = row::get_word(words, n, row::CHILD);
     while cur != 0 {
         count += 1;
-        cur = store::get_word(words, cur, store::NEXT);
+        cur = row::get_word(words, cur, row::NEXT);
     }
     count
 }
@@ -65,12 +65,12 @@ fn is_next(words: &[u32], i: usize, n: u32) -> bool
     requires { ⌜ n < recordCount (now words) ⌝ }
     ensures { λ r. ⌜ r ≡ isNextAt (now (words .entry)) i n ⌝ }
 {
-    let kind = store::get_word(words, n, store::KEY_KIND);
-    if kind == store::INT_KEY {
-        let index = store::get_word(words, n, store::KEY) as usize;
+    let kind = row::get_word(words, n, row::KEY_KIND);
+    if kind == row::INT_KEY {
+        let index = row::get_word(words, n, row::KEY) as usize;
         return index == i;
     }
-    kind == store::NO_KEY
+    kind == row::NO_KEY
 }
 
 // The text of record n as the element of index i.
@@ -105,13 +105,13 @@ fn read_in_turn(
         (inTurnAt duplicates (now (words .entry)) (now (text .entry)) 0 (children (now (words .entry)) n)) r ⌝ }
 {
     let mut i: usize = 0;
-    let mut cur = store::get_word(words, n, store::CHILD);
+    let mut cur = row::get_word(words, n, row::CHILD);
     while cur != 0 {
         match read_element(words, text, i, cur, duplicates) {
             TextRead::Text(offset, len) => {
                 write_element(list, i, offset, len);
                 i += 1;
-                cur = store::get_word(words, cur, store::NEXT);
+                cur = row::get_word(words, cur, row::NEXT);
             }
             TextRead::Refused(refusal) => {
                 return ListRead::Refused(refusal);
@@ -173,20 +173,20 @@ fn read_list(
     ensures { λ r. ⌜ Writes (length (now (list .entry))) (now (list .exit))
         (listAt duplicates (now (words .entry)) (now (text .entry)) (length (now (list .entry))) n) r ⌝ }
 {
-    let kind = store::get_word(words, n, store::KIND);
-    if kind == store::STRING {
+    let kind = row::get_word(words, n, row::KIND);
+    if kind == row::STRING {
         return read_one(words, text, n, list);
     }
-    if kind == store::SEQUENCE {
+    if kind == row::SEQUENCE {
         return read_children(words, text, n, duplicates, list);
     }
-    if kind == store::MAP {
+    if kind == row::MAP {
         if has_int_keys(words, n) {
             return read_children(words, text, n, duplicates, list);
         }
         return ListRead::Refused(Refusal::WrongKind);
     }
-    if kind == store::UNINITIALIZED {
+    if kind == row::UNINITIALIZED {
         return ListRead::Refused(Refusal::WrongKind);
     }
     ListRead::Elements(0)

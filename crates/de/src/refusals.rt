@@ -1,6 +1,6 @@
 // The refusals that a field read meets after the reading is accepted.
 ghost use mathlib.Core.Path.{_≡_};
-ghost use Rattle.de.specs.Refusals.{code};
+ghost use Rattle.refusals.specs.Codes.{code};
 
 // Document 01's numbers 16 to 22, in their order.
 pub enum Refusal {

@@ -1,8 +1,8 @@
 // The text of a record.
 ghost use mathlib.Core.Path.{_≡_};
 ghost use Prim.Native.Nat.{_<_};
-ghost use Rattle.records.specs.Store.{recordCount, word};
-ghost use Rattle.records.specs.Words.{nextWord};
+ghost use Rattle.row.specs.Words.{recordCount, word};
+ghost use Rattle.row.specs.Row.{nextWord};
 ghost use Rattle.de.specs.OnRecords.{Readable, stringTextAt, singleTextAt, severalAt, sequenceTextAt, textAt, fieldAt, fieldTextAt};
 use crate::DuplicateKeyBehavior;
 use crate::field;
@@ -22,8 +22,8 @@ fn string_text(words: &[u32], text: &[u8], n: u32) -> TextRead
     requires { ⌜ Readable (now words) (now text) ⌝ ∗ ⌜ n < recordCount (now words) ⌝ }
     ensures { λ r. ⌜ r ≡ stringTextAt (now (words .entry)) (now (text .entry)) n ⌝ }
 {
-    let offset = store::get_word(words, n, store::TEXT);
-    let len = store::get_word(words, n, store::TEXT_LEN);
+    let offset = row::get_word(words, n, row::TEXT);
+    let len = row::get_word(words, n, row::TEXT_LEN);
     let start = offset as usize;
     let end = start + len as usize;
     if utf8::is_utf8(&text[start..end]) {
@@ -38,14 +38,14 @@ pub(crate) fn single_text(words: &[u32], text: &[u8], n: u32) -> TextRead
     requires { ⌜ Readable (now words) (now text) ⌝ ∗ ⌜ n < recordCount (now words) ⌝ }
     ensures { λ r. ⌜ r ≡ singleTextAt (now (words .entry)) (now (text .entry)) n ⌝ }
 {
-    let kind = store::get_word(words, n, store::KIND);
-    if kind == store::STRING {
+    let kind = row::get_word(words, n, row::KIND);
+    if kind == row::STRING {
         return string_text(words, text, n);
     }
-    if kind == store::NULL {
+    if kind == row::NULL {
         return TextRead::Text(0, 0);
     }
-    if kind == store::NO_VALUE {
+    if kind == row::NO_VALUE {
         return TextRead::Text(0, 0);
     }
     TextRead::Refused(Refusal::WrongKind)
@@ -58,7 +58,7 @@ fn has_several(words: &[u32], first: u32, duplicates: DuplicateKeyBehavior) -> b
 {
     match duplicates {
         DuplicateKeyBehavior::TakeLast => false,
-        DuplicateKeyBehavior::Error => store::get_word(words, first, store::NEXT) != 0,
+        DuplicateKeyBehavior::Error => row::get_word(words, first, row::NEXT) != 0,
     }
 }
 
@@ -67,7 +67,7 @@ fn sequence_text(words: &[u32], text: &[u8], n: u32, duplicates: DuplicateKeyBeh
     requires { ⌜ Readable (now words) (now text) ⌝ ∗ ⌜ n < recordCount (now words) ⌝ }
     ensures { λ r. ⌜ r ≡ sequenceTextAt duplicates (now (words .entry)) (now (text .entry)) n ⌝ }
 {
-    let first = store::get_word(words, n, store::CHILD);
+    let first = row::get_word(words, n, row::CHILD);
     if first == 0 {
         return TextRead::Refused(Refusal::WrongKind);
     }
@@ -88,8 +88,8 @@ pub(crate) fn read_text(
     requires { ⌜ Readable (now words) (now text) ⌝ ∗ ⌜ n < recordCount (now words) ⌝ }
     ensures { λ r. ⌜ r ≡ textAt duplicates (now (words .entry)) (now (text .entry)) n ⌝ }
 {
-    let kind = store::get_word(words, n, store::KIND);
-    if kind == store::SEQUENCE {
+    let kind = row::get_word(words, n, row::KIND);
+    if kind == row::SEQUENCE {
         return sequence_text(words, text, n, duplicates);
     }
     single_text(words, text, n)

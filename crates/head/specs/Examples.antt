@@ -3,7 +3,7 @@ use Prim.Native.String.{String}
 use mathlib.Core.Path.{_≡_}
 use mathlib.Core.Bool.{true, false}
 use mathlib.Core.List.{List, [], _∷_, map}
-use Rattle.reading.specs.Tests.{ascii}
+use Rattle.ascii.specs.Texts.{ascii}
 use Rattle.head.specs.declared.Head.{Head}
 use Rattle.head.specs.declared.Head.the-variants.{Bad, Good}
 use Rattle.head.specs.Heads.{headOf}

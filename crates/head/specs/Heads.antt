@@ -6,7 +6,7 @@ use mathlib.Core.List.{List, [], _∷_}
 use lib.Dec.{eqb}
 use lib.ListN.{length, drop}
 use Rattle.key.specs.Keys.{isDigit, valueFrom}
-use Rattle.reading.specs.Tests.{ascii}
+use Rattle.ascii.specs.Texts.{ascii}
 use Rattle.head.specs.declared.Head.{Head}
 use Rattle.head.specs.declared.Head.the-variants.{Bad, Good}
 

@@ -12,7 +12,7 @@ use Rattle.laws.proofs.Cases.{below}
 use Rattle.config.specs.declared.Config.{Config}
 use Rattle.config.specs.Limits.{maxLen}
 use Rattle.key.specs.Keys.{isDigit, valueFrom}
-use Rattle.reading.specs.Tests.{ascii}
+use Rattle.ascii.specs.Texts.{ascii}
 use Rattle.reading.specs.Reading.{reading}
 use Rattle.head.specs.declared.Head.{Head}
 use Rattle.head.specs.declared.Head.the-variants.{Bad, Good}

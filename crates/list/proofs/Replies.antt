@@ -10,7 +10,7 @@ use lib.Seq.{take-all}
 use Rattle.laws.proofs.Cases.{below}
 use Rattle.laws.proofs.Lists.{mid-tail}
 use Rattle.config.specs.declared.Config.{Config}
-use Rattle.config.specs.Limits.{recordWidth}
+use Rattle.row.specs.Row.{recordWidth}
 use Rattle.reading.specs.Reading.{reading}
 use Rattle.reading.proofs.Outcomes.{answers, of-accepted}
 use Rattle.reading.proofs.Placed.{placed}

@@ -8,7 +8,7 @@ use native.Mathlib.Omega.{arith}
 use borrow.Author.Tests.{ne-eqb}
 use lib.Dec.{eqb}
 use Rattle.key.specs.Keys.{Key}
-use Rattle.reading.specs.Tests.{ascii}
+use Rattle.ascii.specs.Texts.{ascii}
 use Rattle.reading.specs.Trees.{Entries, noEntries, Elements, noElements}
 use Rattle.reading.specs.Buffers.{byKind}
 use Rattle.listing.specs.Lines.{kindName, textItem, ownLines, treeLines, entryLines, elementLines}

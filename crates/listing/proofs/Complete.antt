@@ -12,7 +12,7 @@ use lib.Seq.{take-all}
 use Rattle.config.specs.declared.Config.{Config}
 use Rattle.key.specs.Keys.{Key}
 use Rattle.reading.specs.Running.{Answer, Accepts, accepts}
-use Rattle.config.specs.Limits.{recordWidth}
+use Rattle.row.specs.Row.{recordWidth}
 use Rattle.reading.specs.Reading.{Outcome, reading}
 use Rattle.reading.specs.Trees.{Tree, uninitialized, null, noValue, string, map, sequence, Entries, noEntries, entry, Elements, noElements, element}
 use Rattle.reading.specs.Buffers.{treeIn}

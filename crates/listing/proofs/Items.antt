@@ -4,8 +4,8 @@ use mathlib.Core.Bool.{Bool, true, false}
 use mathlib.Core.List.{List, _++_}
 use Prim.Native.Nat.{ℕ}
 use borrow.Author.Tests.{eq-eqb, ne-eqb}
-use Rattle.reading.specs.Tests.{ascii}
-use Rattle.reading.specs.Buffers.{word, textPart}
+use Rattle.ascii.specs.Texts.{ascii}
+use Rattle.row.specs.Words.{word, textPart}
 use Rattle.listing.specs.Numbers.{decimal, hex}
 use Rattle.listing.specs.Lines.{keyItem, textItem}
 use Rattle.listing.specs.Walking.{keyShown, childless}

@@ -10,10 +10,11 @@ use lib.Dec.{eqb}
 use lib.ListN.{length, getD, length-append}
 use Rattle.laws.proofs.Cases.{split, below}
 use Rattle.key.specs.Keys.{Key, int, str}
-use Rattle.reading.specs.Tests.{ascii}
+use Rattle.ascii.specs.Texts.{ascii}
 use Rattle.reading.specs.Reading.{reading}
 use Rattle.reading.specs.Trees.{Tree, uninitialized, null, noValue, string, map, sequence, Entries, noEntries, entry, Elements, noElements, element}
-use Rattle.reading.specs.Buffers.{word, textPart, byKind, keyAt, treeAt, entriesAt, elementsAt, treeIn}
+use Rattle.row.specs.Words.{word, textPart}
+use Rattle.reading.specs.Buffers.{byKind, keyAt, treeAt, entriesAt, elementsAt, treeIn}
 use Rattle.reading.specs.Counts.{values, entryValues, elementValues, keyLength, textBytes, entryBytes, elementBytes}
 use Rattle.reading.proofs.Outcomes.{counts}
 use Rattle.listing.specs.Numbers.{decimalIn, decimal, hex}

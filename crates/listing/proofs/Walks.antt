@@ -10,9 +10,10 @@ use lib.Dec.{eqb}
 use lib.ListN.{length, take}
 use lib.Seq.{take-nil}
 use Rattle.key.specs.Keys.{Key}
-use Rattle.config.specs.Limits.{recordWidth}
+use Rattle.row.specs.Row.{recordWidth}
 use Rattle.reading.specs.Trees.{Tree, uninitialized, null, noValue, string, map, sequence, noEntries, entry, noElements, element}
-use Rattle.reading.specs.Buffers.{word, textPart, treeAt, entriesAt, elementsAt, keyAt}
+use Rattle.row.specs.Words.{word, textPart}
+use Rattle.reading.specs.Buffers.{treeAt, entriesAt, elementsAt, keyAt}
 use Rattle.listing.specs.Lines.{ownLines, treeLines, entryLines, elementLines}
 use Rattle.listing.specs.Bounded.{boundedValues}
 use Rattle.listing.specs.Walking.{keyShown, childless, recordLines, childLines, firstOfValue, firstOfSiblings}

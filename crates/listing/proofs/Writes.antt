@@ -5,7 +5,7 @@ use mathlib.Core.List.{List, [], _∷_, _++_, append-assoc, flatten}
 use Prim.Native.Nat.{ℕ, _+_, _-_, _≤_, _<_}
 use native.Mathlib.Omega.{arith}
 use lib.ListN.{length, length-append}
-use Rattle.reading.specs.Buffers.{word}
+use Rattle.row.specs.Words.{word}
 use Rattle.listing.specs.Output.{Page, page, Puts}
 use Rattle.listing.specs.Walking.{firstOfValue, firstOfSiblings, Wrote}
 use Rattle.listing.proofs.Pages.{puts-then, puts-same, puts-nothing, Putting, putting-start, putting-more, putting-done}

@@ -4,7 +4,7 @@ use mathlib.Core.Bool.{cond}
 use mathlib.Core.List.{List, [], _++_, flatten}
 use lib.Dec.{eqb}
 use lib.ListN.{length, take}
-use Rattle.config.specs.Limits.{recordWidth}
+use Rattle.row.specs.Row.{recordWidth}
 use Rattle.reading.specs.Reading.{Outcome}
 use Rattle.listing.specs.Listing.{answerLines, valueLines}
 

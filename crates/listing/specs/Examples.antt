@@ -4,7 +4,8 @@ use Prim.Native.String.{String}
 use mathlib.Core.Path.{_≡_}
 use mathlib.Core.List.{List, [], _∷_, _++_, map, flatMap}
 use Rattle.config.specs.Defaults.{defaults}
-use Rattle.reading.specs.Tests.{ascii, before}
+use Rattle.ascii.specs.Texts.{ascii}
+use Rattle.reading.specs.Tests.{before}
 use Rattle.reading.specs.Reading.{reading}
 use Rattle.listing.specs.Listing.{listing}
 

@@ -4,7 +4,7 @@ use Prim.Native.String.{String}
 use mathlib.Core.Option.{Option, none, some}
 use mathlib.Core.List.{List, [], _∷_, _++_}
 use Rattle.key.specs.Keys.{Key, int, str}
-use Rattle.reading.specs.Tests.{ascii}
+use Rattle.ascii.specs.Texts.{ascii}
 use Rattle.reading.specs.Trees.{Tree, uninitialized, null, noValue, string, map, sequence, Entries, noEntries, entry, Elements, noElements, element}
 use Rattle.listing.specs.Numbers.{decimal, hex}
 

@@ -4,7 +4,7 @@ use mathlib.Core.Bool.{cond}
 use mathlib.Core.Option.{none}
 use mathlib.Core.List.{List, [], _++_, flatten}
 use lib.Dec.{eqb}
-use Rattle.reading.specs.Tests.{ascii}
+use Rattle.ascii.specs.Texts.{ascii}
 use Rattle.reading.specs.Reading.{Outcome}
 use Rattle.reading.specs.Buffers.{treeIn}
 use Rattle.listing.specs.Numbers.{decimal}

@@ -7,7 +7,8 @@ use mathlib.Core.List.{List, flatten}
 use lib.ListN.{length, take}
 use Rattle.key.specs.Keys.{Key}
 use Rattle.reading.specs.Trees.{Tree, noEntries, noElements}
-use Rattle.reading.specs.Buffers.{word, textPart, byKind, keyAt, treeAt, entriesAt, elementsAt}
+use Rattle.row.specs.Words.{word, textPart}
+use Rattle.reading.specs.Buffers.{byKind, keyAt, treeAt, entriesAt, elementsAt}
 use Rattle.listing.specs.Lines.{ownLines, treeLines, entryLines, elementLines}
 use Rattle.listing.specs.Output.{Page, Puts}
 

@@ -1,8 +1,9 @@
 // A value's own four lines.
 ghost use mathlib.Core.List.{[]};
-ghost use Rattle.reading.specs.Tests.{ascii};
+ghost use Rattle.ascii.specs.Texts.{ascii};
 ghost use Rattle.reading.specs.Trees.{noEntries, noElements};
-ghost use Rattle.reading.specs.Buffers.{word, byKind};
+ghost use Rattle.row.specs.Words.{word};
+ghost use Rattle.reading.specs.Buffers.{byKind};
 ghost use Rattle.listing.specs.Lines.{line, keyItem, kindName, textItem};
 ghost use Rattle.listing.specs.Walking.{keyShown, childless, recordLines};
 ghost use Rattle.listing.specs.Output.{page, Puts};
@@ -18,13 +19,13 @@ fn write_key(words: &[u32], text: &[u8], n: u32, keyed: bool, out: &mut [u8], at
     if !keyed {
         return output::write_byte(b'-', out, at);
     }
-    let kind = record::get_word(words, n, store::KEY_KIND);
-    let key = record::get_word(words, n, store::KEY);
-    if kind == store::INT_KEY {
+    let kind = record::get_word(words, n, row::KEY_KIND);
+    let key = record::get_word(words, n, row::KEY);
+    if kind == row::INT_KEY {
         let int = output::write_byte(b'i', out, at);
         return numbers::write_decimal(key as usize, out, int);
     }
-    let len = record::get_word(words, n, store::KEY_LEN);
+    let len = record::get_word(words, n, row::KEY_LEN);
     let bytes = output::write_byte(b's', out, at);
     numbers::write_hex(record::text_part(text, key, len), out, bytes)
 }
@@ -33,19 +34,19 @@ fn write_key(words: &[u32], text: &[u8], n: u32, keyed: bool, out: &mut [u8], at
 fn write_kind(kind: u32, out: &mut [u8], at: usize) -> usize
     ensures { λ r. ⌜ Puts (ascii (kindName (byKind kind [] noEntries noElements))) (page (now (out .entry)) at) (page (now (out .exit)) r) ⌝ }
 {
-    if kind == store::MAP {
+    if kind == row::MAP {
         return output::write_bytes(b"map", out, at);
     }
-    if kind == store::SEQUENCE {
+    if kind == row::SEQUENCE {
         return output::write_bytes(b"sequence", out, at);
     }
-    if kind == store::STRING {
+    if kind == row::STRING {
         return output::write_bytes(b"string", out, at);
     }
-    if kind == store::NULL {
+    if kind == row::NULL {
         return output::write_bytes(b"null", out, at);
     }
-    if kind == store::NO_VALUE {
+    if kind == row::NO_VALUE {
         return output::write_bytes(b"novalue", out, at);
     }
     output::write_bytes(b"uninit", out, at)
@@ -55,12 +56,12 @@ fn write_kind(kind: u32, out: &mut [u8], at: usize) -> usize
 fn write_text(words: &[u32], text: &[u8], n: u32, out: &mut [u8], at: usize) -> usize
     ensures { λ r. ⌜ Puts (textItem (childless (now (words .entry)) (now (text .entry)) n)) (page (now (out .entry)) at) (page (now (out .exit)) r) ⌝ }
 {
-    let kind = record::get_word(words, n, store::KIND);
-    if kind != store::STRING {
+    let kind = record::get_word(words, n, row::KIND);
+    if kind != row::STRING {
         return output::write_byte(b'-', out, at);
     }
-    let offset = record::get_word(words, n, store::TEXT);
-    let len = record::get_word(words, n, store::TEXT_LEN);
+    let offset = record::get_word(words, n, row::TEXT);
+    let len = record::get_word(words, n, row::TEXT_LEN);
     numbers::write_hex(record::text_part(text, offset, len), out, at)
 }
 
@@ -87,7 +88,7 @@ fn write_kind_line(words: &[u32], n: u32, out: &mut [u8], at: usize) -> usize
         (page (now (out .entry)) at) (page (now (out .exit)) r) ⌝ }
 {
     let item = output::write_bytes(b"kind=", out, at);
-    let end = write_kind(record::get_word(words, n, store::KIND), out, item);
+    let end = write_kind(record::get_word(words, n, row::KIND), out, item);
     output::write_byte(b'\n', out, end)
 }
 

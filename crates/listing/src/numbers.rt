@@ -2,7 +2,7 @@
 ghost use mathlib.Core.Path.{_≡_};
 ghost use Prim.Native.Nat.{_<_};
 ghost use mathlib.Core.List.{_++_};
-ghost use Rattle.reading.specs.Tests.{ascii};
+ghost use Rattle.ascii.specs.Texts.{ascii};
 ghost use Rattle.listing.specs.Numbers.{decimal, hexDigit, hex};
 ghost use Rattle.listing.specs.Output.{page, Puts};
 use crate::output;

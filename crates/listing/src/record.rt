@@ -1,8 +1,8 @@
 // What a record says, where words and text may be any: a word or a text past the end is 0 or empty.
 ghost use mathlib.Core.Path.{_≡_};
 ghost use Prim.Native.Nat.{_<_};
-ghost use Rattle.config.specs.Limits.{recordWidth};
-ghost use Rattle.reading.specs.Buffers.{word, textPart};
+ghost use Rattle.row.specs.Row.{recordWidth};
+ghost use Rattle.row.specs.Words.{word, textPart};
 use records::store;
 
 // Word w of record n, or 0 past the words' end.
@@ -10,7 +10,7 @@ pub(crate) fn get_word(words: &[u32], n: u32, w: usize) -> u32
     requires { ⌜ w < recordWidth ⌝ }
     ensures { λ r. ⌜ r ≡ word (now (words .entry)) n w ⌝ }
 {
-    let i = n as usize * store::WIDTH + w;
+    let i = n as usize * row::WIDTH + w;
     if i < words.len() {
         return words[i];
     }

@@ -34,12 +34,12 @@ fn write_value(
     let at = lines::write_own(words, text, n, keyed, level, out, from.at);
     let left = from.left - 1;
     let next = Progress { at, left };
-    let kind = record::get_word(words, n, store::KIND);
-    let first = record::get_word(words, n, store::CHILD);
-    if kind == store::MAP {
+    let kind = record::get_word(words, n, row::KIND);
+    let first = record::get_word(words, n, row::CHILD);
+    if kind == row::MAP {
         return write_map(words, text, first, true, level + 1, out, next);
     }
-    if kind == store::SEQUENCE {
+    if kind == row::SEQUENCE {
         return write_map(words, text, first, false, level + 1, out, next);
     }
     next
@@ -69,7 +69,7 @@ fn write_map(
         let next = write_value(words, text, n, keyed, level, out, Progress { at, left });
         at = next.at;
         left = next.left;
-        n = record::get_word(words, n, store::NEXT);
+        n = record::get_word(words, n, row::NEXT);
     }
     Progress { at, left }
 }
@@ -88,7 +88,7 @@ pub(crate) fn write_values(
     if number != 0 {
         return at;
     }
-    let left = words.len() / store::WIDTH;
+    let left = words.len() / row::WIDTH;
     if left == 0 {
         return at;
     }

@@ -12,7 +12,7 @@ use Rattle.config.specs.declared.Config.{Config}
 use Rattle.key.specs.Keys.{Key}
 use Rattle.reading.specs.Values.{Value}
 use Rattle.reading.specs.Charging.{Lent, made}
-use Rattle.reading.specs.Refusals.{code}
+use Rattle.refusals.specs.Codes.{code}
 use Rattle.reading.specs.Taking.{Symbol, ampersand, equals, opening, closing, other}
 use Rattle.reading.specs.Scanning.{Target, Mode, rootKey, value, keyBelowDepth, keyAtDepth, Step, _then_, step, finish}
 use Rattle.reading.specs.Running.{Answer, perform}

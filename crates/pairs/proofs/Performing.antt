@@ -9,7 +9,8 @@ use Rattle.key.specs.Keys as keys
 use Rattle.reading.specs.Values.{Value}
 use Rattle.reading.specs.Leaves as leaves
 use Rattle.reading.specs.Charging.{Lent, Made}
-use Rattle.reading.specs.Refusals.{Refusal, code}
+use Rattle.refusals.specs.declared.Refusal.{Refusal}
+use Rattle.refusals.specs.Codes.{code}
 use Rattle.reading.specs.Scanning.{root, under, last, Command, enter, add, Mode, rootKey, bracket, Step, _then_}
 use Rattle.reading.specs.Adding.{appendValue, atPath}
 use Rattle.reading.specs.Running.{Answer, perform, resume}

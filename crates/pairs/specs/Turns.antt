@@ -8,7 +8,8 @@ use lib.ListN.{length}
 use Rattle.config.specs.declared.Config.{Config}
 use Rattle.key.specs.Keys.{Key}
 use Rattle.reading.specs.Values.{Value}
-use Rattle.reading.specs.Refusals.{Refusal, code}
+use Rattle.refusals.specs.declared.Refusal.{Refusal}
+use Rattle.refusals.specs.Codes.{code}
 use Rattle.reading.specs.Scanning.{Mode, rootKey, bracket, keyBelowDepth, keyAtDepth, Step}
 use Rattle.reading.specs.Running.{Answer, accepted, refusedAt}
 use Rattle.cursor.specs.declared.taking.Cursor.{Cursor}

@@ -8,7 +8,8 @@ use borrow.Author.Tests.{leb-true, leb-false, lt-ltb, le-ltb}
 use lib.Dec.{leb, ltb}
 use lib.ListN.{length, replicate, length-replicate}
 use Rattle.config.specs.declared.Config.{Config}
-use Rattle.config.specs.Limits.{maxDepth, maxLen, recordWidth}
+use Rattle.config.specs.Limits.{maxDepth, maxLen}
+use Rattle.row.specs.Row.{recordWidth}
 use Rattle.reading.specs.Values.{uninitialized, noValue}
 use Rattle.reading.specs.Charging.{Lent}
 use Rattle.reading.specs.Scanning.{rootKey}
@@ -17,8 +18,8 @@ use Rattle.reading.specs.Reading.{lentBy, parsed, outcome, reading}
 use Rattle.reading.specs.Covering.{gives}
 use Rattle.cursor.specs.From.{from}
 use Rattle.cursor.proofs.From.{from-start}
-use Rattle.records.specs.Words.{noValueKind}
-use Rattle.records.specs.Store.{recordCount}
+use Rattle.row.specs.Row.{noValueKind}
+use Rattle.row.specs.Words.{recordCount}
 use Rattle.records.specs.Records.{withValue}
 use Rattle.records.specs.Adding.{childless}
 use Rattle.records.proofs.Valued.{length-withValue}

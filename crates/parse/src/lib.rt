@@ -7,9 +7,10 @@ mod refusals; // the numbers of the refusals
 ghost use mathlib.Core.Path.{_≡_};
 ghost use Prim.Native.Nat.{_≤_, _<_};
 ghost use lib.ListN.{length, replicate};
-ghost use Rattle.config.specs.Limits.{maxLen, recordWidth};
+ghost use Rattle.config.specs.Limits.{maxLen};
+ghost use Rattle.row.specs.Row.{recordWidth};
 ghost use Rattle.reading.specs.Reading.{lentBy, parsed, outcome, reading};
-ghost use Rattle.records.specs.Words.{noValueKind};
+ghost use Rattle.row.specs.Row.{noValueKind};
 ghost use Rattle.records.specs.Records.{withValue};
 ghost use Rattle.records.specs.Adding.{childless};
 ghost use Rattle.parse.specs.declared.Parsed.the-variants.{Accepted};
@@ -55,7 +56,7 @@ fn parse_empty(words: &mut [u32]) -> Parsed
         × (r ≡ Accepted 1 0) ⌝ }
 {
     let no_value = ValueWords {
-        kind: store::NO_VALUE,
+        kind: row::NO_VALUE,
         offset: 0,
         len: 0,
     };
@@ -89,7 +90,7 @@ fn parse_input(input: &[u8], config: Config, words: &mut [u32], text: &mut [u8])
     if Config::is_too_long(input.len()) {
         return Parsed::Refused(refusals::TOO_LONG, 0);
     }
-    if store::has_room(words, 1) {
+    if row::has_room(words, 1) {
         return parse_cleared(input, config, words, text);
     }
     Parsed::Refused(refusals::NO_RECORD, 0)

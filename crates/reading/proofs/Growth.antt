@@ -9,9 +9,12 @@ use lib.Dec.{ltb}
 use lib.ListN.{length, length-append}
 use Rattle.laws.proofs.Cases.{true-false}
 use Rattle.config.specs.declared.Config.{Config}
-use Rattle.config.specs.Limits.{maxDepth, maxLen, recordWidth}
+use Rattle.config.specs.Limits.{maxDepth, maxLen}
+use Rattle.row.specs.Row.{recordWidth}
 use Rattle.reading.specs.Values.{Value, uninitialized}
-use Rattle.reading.specs.Refusals.{Refusal, code, tooDeep, tooLong, noRecord, endAfterOpening, endBeforeClosing}
+use Rattle.refusals.specs.declared.Refusal.{Refusal}
+use Rattle.refusals.specs.declared.Refusal.the-variants.{TooDeep, TooLong, NoRecord, EndAfterOpening, EndBeforeClosing}
+use Rattle.refusals.specs.Codes.{code}
 use Rattle.reading.specs.Charging.{Lent, Made, made, refused}
 use Rattle.reading.specs.Taking.{ampersand, Token, token, tokens}
 use Rattle.reading.specs.Scanning.{Mode, rootKey, value, bracket, keyBelowDepth, keyAtDepth, afterKey, afterBrackets, finish, step}
@@ -39,8 +42,8 @@ run-grows config lent ts p m v n t =
 
 -- Refusals that more input or more space may lift.
 data Excused : Refusal → Type 0 where
-  atOpening : Excused endAfterOpening
-  beforeClosing : Excused endBeforeClosing
+  atOpening : Excused EndAfterOpening
+  beforeClosing : Excused EndBeforeClosing
   forSpace : {x : Refusal} → ForSpace x → Excused x
 
 -- The answers to an input that ends at this place, and to the one that it grew to.
@@ -122,8 +125,8 @@ grew n words bytes words′ bytes′ (excused {x = x} k) s z =
 -- Refusals 1 to 3, by their tests on the two inputs: the settings are the same, neither input is too long, and the second is lent as much.
 gates : (n : ℕ) (deep long long′ few few′ : Bool) (w x w′ x′ : List ℕ) (o g : Outcome) → (long ≡ true → ⊥) → (long′ ≡ true → ⊥) → (few′ ≡ true → few ≡ true)
     → (few ≡ false → Grew n o g)
-    → Grew n (cond deep (unread tooDeep w x) (cond long (unread tooLong w x) (cond few (unread noRecord w x) o)))
-    (cond deep (unread tooDeep w′ x′) (cond long′ (unread tooLong w′ x′) (cond few′ (unread noRecord w′ x′) g)))
+    → Grew n (cond deep (unread TooDeep w x) (cond long (unread TooLong w x) (cond few (unread NoRecord w x) o)))
+    (cond deep (unread TooDeep w′ x′) (cond long′ (unread TooLong w′ x′) (cond few′ (unread NoRecord w′ x′) g)))
 gates n true long long′ few few′ w x w′ x′ o g a b c h =
     record { keeps = λ e f. absurd (omega arith); late = λ e f. absurd (f e); stands = λ l. (refl, refl) }
 gates n false true long′ few few′ w x w′ x′ o g a b c h = absurd (a refl)

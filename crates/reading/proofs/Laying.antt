@@ -8,7 +8,7 @@ use Rattle.key.specs.Keys.{Key, int, str}
 use Rattle.reading.specs.Values.{Label, unkeyed, intKey, stringKey, Value, uninitialized, null, noValue, string, map, sequence, Forest, none, child}
 use Rattle.reading.specs.Leaves.{Leaf}
 use Rattle.reading.specs.Adding.{keyText, leafText, labelAt, valueAt}
-use Rattle.reading.specs.Buffers.{textPart}
+use Rattle.row.specs.Words.{textPart}
 use Rattle.reading.specs.Laid.{Lies, LaidLabel, Laid, LaidAll}
 
 lies-more : {t : List ℕ} {o : ℕ} {x : List ℕ} (y : List ℕ) → Lies t o x → Lies (t ++ y) o x

@@ -8,12 +8,13 @@ use borrow.Author.Tests.{eq-eqb, ne-eqb, ltb-true}
 use lib.Dec.{eqb, ltb}
 use lib.ListN.{length, getD, replicate, length-append, List·getD-append}
 use lib.Seq.{getD-append-add}
-use Rattle.config.specs.Limits.{recordWidth}
+use Rattle.row.specs.Row.{recordWidth}
 use Rattle.key.specs.Keys.{str}
 use Rattle.reading.specs.Values.{Label, unkeyed, intKey, stringKey, labelKey, Value, uninitialized, null, noValue, string, map, sequence, Forest, none, child}
 use Rattle.reading.specs.Records.{kind, keyWords, textOffset, textLength, first, firstChild, recordWords, recordBelow, recordAmong, recordsFrom, layout}
 use Rattle.reading.specs.Trees.{Tree, noEntries, noElements, plain, entries, elements}
-use Rattle.reading.specs.Buffers.{word, keyAt, treeAt, entriesAt, elementsAt, treeIn}
+use Rattle.row.specs.Words.{word}
+use Rattle.reading.specs.Buffers.{keyAt, treeAt, entriesAt, elementsAt, treeIn}
 use Rattle.reading.specs.Counts.{values, entryValues, elementValues}
 use Rattle.reading.specs.Laid.{LaidLabel, Laid, LaidAll}
 use Rattle.reading.proofs.Results.{by-test}
@@ -249,6 +250,7 @@ below-one i n = go (ltb i n)
 -- The words of a tree hold the record of each of its values, with anything behind them.
 module _ (v : Value) (n : ℕ) (t zs : List ℕ) (h : Held v n t) where
   finds : FindsAll (layout n v ++ zs) (child 0 unkeyed v none) (λ i. blank)
+  unfolding word
   finds i c j k =
       let m : i < n = below-lt i n (omega (arith, h .numbers i)) in
       let e : 0 + i ≡ i = omega arith in

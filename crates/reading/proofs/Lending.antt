@@ -11,7 +11,8 @@ use Rattle.laws.proofs.Cases.{true-false}
 use Rattle.key.specs.Keys.{Key, str}
 use Rattle.reading.specs.Values.{unkeyed, labelKey, Value, uninitialized, null, noValue, string, map, sequence, Forest, none, child}
 use Rattle.reading.specs.Leaves.{Leaf}
-use Rattle.reading.specs.Refusals.{Refusal, tooFewRecords, tooLittleText}
+use Rattle.refusals.specs.declared.Refusal.{Refusal}
+use Rattle.refusals.specs.declared.Refusal.the-variants.{TooFewRecords, TooLittleText}
 use Rattle.key.specs.KeyOrder.{compareKeys, choose}
 use Rattle.reading.specs.Charging.{Lent, Made, made, refused, Rule, over, bind, charge}
 use Rattle.reading.specs.Adding.{expectMap, expectSequence, keyText, leafText, labelAt, valueAt, insertNew, enterNew, sequenceOfTwo, snoc, push, appendValue, appendEmptyKey, atEntry, insertUnique, unchanged, enterKey, noPath, atPath}
@@ -20,8 +21,8 @@ use Rattle.reading.specs.Running.{perform}
 
 -- Refusals 14 and 15.
 pub data ForSpace : Refusal → Type 0 where
-  records : ForSpace tooFewRecords
-  text : ForSpace tooLittleText
+  records : ForSpace TooFewRecords
+  text : ForSpace TooLittleText
 
 -- The first is the second, or a refusal for space.
 pub data Spared {A : Type 0} : Made A → Made A → Type 0 where
@@ -46,7 +47,7 @@ spared-choose Ordering·eq p q r = q
 spared-choose Ordering·gt p q r = r
 
 tests : {A : Type 0} (b c b′ c′ : Bool) (r : Made A) → (b′ ≡ true → b ≡ true) → (c′ ≡ true → c ≡ true)
-    → Spared (cond b (refused tooFewRecords) (cond c (refused tooLittleText) r)) (cond b′ (refused tooFewRecords) (cond c′ (refused tooLittleText) r))
+    → Spared (cond b (refused TooFewRecords) (cond c (refused TooLittleText) r)) (cond b′ (refused TooFewRecords) (cond c′ (refused TooLittleText) r))
 tests true c b′ c′ r f g = scarce records
 tests false c true c′ r f g = true-false (sym (f refl))
 tests false true false c′ r f g = scarce text

@@ -6,6 +6,7 @@ use mathlib.Core.Bool.{Bool, true, false, cond, not, _&&_, _||_}
 use mathlib.Core.List.{List, [], _∷_, flatten}
 use borrow.Author.Tests.{eqb-true}
 use lib.Dec.{eqb}
+use Rattle.row.specs.Words.{word}
 use Rattle.laws.proofs.Cases.{true-false, both}
 use Rattle.decode.specs.Hex.{digitOf}
 use Rattle.decode.specs.Decoding.{decoded}
@@ -163,7 +164,7 @@ each-lost ((w, v) ∷ more) e =
     )
 
 all-pass : testsPass lost ≡ true
-unfolding reading flatten decoded digitOf allDigits valueFrom
+unfolding reading flatten decoded digitOf allDigits valueFrom word
 all-pass = refl
 
 pub lost-all : LostAll

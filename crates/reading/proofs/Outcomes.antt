@@ -9,9 +9,13 @@ use lib.Dec.{T, leb, leb→le, ltb}
 use lib.ListN.{length, replicate, length-append, length-replicate}
 use lib.Seq.{drop-at}
 use Rattle.config.specs.declared.Config.{Config}
-use Rattle.config.specs.Limits.{maxDepth, maxLen, recordWidth}
+use Rattle.config.specs.Limits.{maxDepth, maxLen}
+use Rattle.row.specs.Row.{recordWidth}
 use Rattle.reading.specs.Values.{unkeyed, Value, uninitialized, none, child}
-use Rattle.reading.specs.Refusals.{Refusal, code, tooDeep, tooLong, noRecord, endAfterOpening, endBeforeClosing, sequenceOnMap, sequenceOnSingle, mapOnSequence, mapOnString, mapOnNull, byteAfterKey, openingAfterBrackets, byteAfterBrackets, tooFewRecords, tooLittleText, noSuchPath}
+use Rattle.refusals.specs.declared.Refusal.{Refusal}
+use Rattle.refusals.specs.declared.Refusal.the-variants.{TooDeep, TooLong, NoRecord, EndAfterOpening, EndBeforeClosing, SequenceOnMap, SequenceOnSingle, MapOnSequence, MapOnString}
+use Rattle.refusals.specs.declared.Refusal.the-variants.{MapOnNull, ByteAfterKey, OpeningAfterBrackets, ByteAfterBrackets, TooFewRecords, TooLittleText, WrongRoot, NoSuchField, WrongKind, SeveralValues, MissingIndex, NotUtf8, ShortSlice}
+use Rattle.refusals.specs.Codes.{code}
 use Rattle.reading.specs.Charging.{Lent}
 use Rattle.reading.specs.Taking.{tokens}
 use Rattle.reading.specs.Scanning.{rootKey}
@@ -35,26 +39,32 @@ use Rattle.reading.proofs.Reaching.{Numbered, run-reach}
 
 -- No refusal has the number 0.
 pub code-some : (x : Refusal) → code x ≡ 0 → ⊥
-code-some tooDeep e = omega arith
-code-some tooLong e = omega arith
-code-some noRecord e = omega arith
-code-some endAfterOpening e = omega arith
-code-some endBeforeClosing e = omega arith
-code-some sequenceOnMap e = omega arith
-code-some sequenceOnSingle e = omega arith
-code-some mapOnSequence e = omega arith
-code-some mapOnString e = omega arith
-code-some mapOnNull e = omega arith
-code-some byteAfterKey e = omega arith
-code-some openingAfterBrackets e = omega arith
-code-some byteAfterBrackets e = omega arith
-code-some tooFewRecords e = omega arith
-code-some tooLittleText e = omega arith
-code-some noSuchPath e = omega arith
+code-some TooDeep e = omega arith
+code-some TooLong e = omega arith
+code-some NoRecord e = omega arith
+code-some EndAfterOpening e = omega arith
+code-some EndBeforeClosing e = omega arith
+code-some SequenceOnMap e = omega arith
+code-some SequenceOnSingle e = omega arith
+code-some MapOnSequence e = omega arith
+code-some MapOnString e = omega arith
+code-some MapOnNull e = omega arith
+code-some ByteAfterKey e = omega arith
+code-some OpeningAfterBrackets e = omega arith
+code-some ByteAfterBrackets e = omega arith
+code-some TooFewRecords e = omega arith
+code-some TooLittleText e = omega arith
+code-some WrongRoot e = omega arith
+code-some NoSuchField e = omega arith
+code-some WrongKind e = omega arith
+code-some SeveralValues e = omega arith
+code-some MissingIndex e = omega arith
+code-some NotUtf8 e = omega arith
+code-some ShortSlice e = omega arith
 
 -- What holds of the four outcomes that a reading may have holds of it.
 pub reading-cases : (Q : Outcome → Type 0) (config : Config) (input words text : List ℕ)
-    → Q (unread tooDeep words text) → Q (unread tooLong words text) → (length words < recordWidth → Q (unread noRecord words text))
+    → Q (unread TooDeep words text) → Q (unread TooLong words text) → (length words < recordWidth → Q (unread NoRecord words text))
     → (recordWidth ≤ length words → Q (outcome (length words) (length text) (parsed config input (lentBy words text)))) → Q (reading config input words text)
 unfolding reading
 reading-cases Q config input words text deep long few read =
@@ -162,8 +172,8 @@ outcome-answered words text (refusesAt {x = x} {p = p} h) = refused-answered wor
 
 pub answers : Answers
 answers config input words text =
-    reading-cases (Answered words text) config input words text (unread-answered words text tooDeep (omega arith) (omega arith))
-    (unread-answered words text tooLong (omega arith) (omega arith)) (λ h. unread-answered words text noRecord (omega arith) (omega arith))
+    reading-cases (Answered words text) config input words text (unread-answered words text TooDeep (omega arith) (omega arith))
+    (unread-answered words text TooLong (omega arith) (omega arith)) (λ h. unread-answered words text NoRecord (omega arith) (omega arith))
     (λ h. outcome-answered words text (parsed-sound config input (lentBy words text) (whole-records words text h)))
 
 -- What is proved of the tree of an accepted reading and of its outcome.

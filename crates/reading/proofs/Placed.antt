@@ -8,7 +8,8 @@ use borrow.Author.Tests.{ltb-false}
 use lib.Dec.{ltb}
 use lib.ListN.{length}
 use Rattle.config.specs.declared.Config.{Config}
-use Rattle.config.specs.Limits.{maxDepth, maxLen, recordWidth}
+use Rattle.config.specs.Limits.{maxDepth, maxLen}
+use Rattle.row.specs.Row.{recordWidth}
 use Rattle.reading.specs.Values.{Value, uninitialized}
 use Rattle.reading.specs.Charging.{Lent, Made, made, refused}
 use Rattle.reading.specs.Taking.{tokens}

@@ -1,5 +1,5 @@
 -- The path that the reading follows leads to a value, and nothing below the root but that value is undecided. So no reading answers
--- `noSuchPath`, and of an accepted tree nothing below the root is undecided.
+-- `NoSuchField`, and of an accepted tree nothing below the root is undecided.
 use Prim.Native.Nat.{ℕ, _+_, Ordering, Ordering·lt, Ordering·eq, Ordering·gt}
 use mathlib.Core.Path.{_≡_, refl}
 use mathlib.Core.Bool.{Bool, true, false, cond, _&&_}
@@ -10,7 +10,9 @@ use Rattle.config.specs.declared.Config.{Config}
 use Rattle.key.specs.Keys.{Key, keyOf}
 use Rattle.reading.specs.Values.{unkeyed, labelKey, Value, uninitialized, null, noValue, string, map, sequence, Forest, none, child}
 use Rattle.reading.specs.Leaves.{Leaf, valueOf}
-use Rattle.reading.specs.Refusals.{Refusal, code, noSuchPath}
+use Rattle.refusals.specs.declared.Refusal.{Refusal}
+use Rattle.refusals.specs.declared.Refusal.the-variants.{NoSuchField}
+use Rattle.refusals.specs.Codes.{code}
 use Rattle.key.specs.KeyOrder.{compareKeys, choose}
 use Rattle.reading.specs.Charging.{Lent, Made, made, refused, Rule, over, bind}
 use Rattle.reading.specs.Adding.{expectMap, expectSequence, keyText, leafText, labelAt, valueAt, enterNew, snoc, push, atEntry, insertUnique, unchanged, enterKey, noPath, atPath}
@@ -101,7 +103,7 @@ module _ (k : Key) (rule : Rule Value) (S U : Value → Type 0) (f : (v : Value)
     where
       go : (o : Ordering) → compareKeys k (labelKey l) ≡ o → along o (S v × DecidedAll cs) (Decided v × ReachAmong k S cs)
           → (ReachAmong k S cs → Becomes (ReachAmong k U) (atEntry k rule noPath cs n t))
-          → Becomes (ReachAmong k U) (choose o (refused noSuchPath) (over (λ w. child m l w cs) (rule v n t)) (over (child m l v) (atEntry k rule noPath cs n t)))
+          → Becomes (ReachAmong k U) (choose o (refused NoSuchField) (over (λ w. child m l w cs) (rule v n t)) (over (child m l v) (atEntry k rule noPath cs n t)))
       go Ordering·lt e q further = absurd q
       go Ordering·eq e q further = gives-over (λ w. child m l w cs) (λ w i u d. rw e (d, q .1)) (f v n t (q .0))
       go Ordering·gt e q further = gives-over (child m l v) (λ ds i u d. rw e (q .0, d)) (further (q .1))

@@ -7,7 +7,8 @@ use native.Mathlib.Omega.{arith}
 use borrow.Author.Tests.{ltb-true, ltb-false}
 use lib.Dec.{ltb}
 use lib.ListN.{length, length-append}
-use Rattle.reading.specs.Refusals.{Refusal, tooFewRecords, tooLittleText}
+use Rattle.refusals.specs.declared.Refusal.{Refusal}
+use Rattle.refusals.specs.declared.Refusal.the-variants.{TooFewRecords, TooLittleText}
 use Rattle.key.specs.KeyOrder.{choose}
 use Rattle.reading.specs.Charging.{Lent, Made, over, charge}
 use Rattle.reading.specs.Covering.{Gives, gives, refuses, Whatever}
@@ -53,7 +54,7 @@ pub record Within (lent : Lent) (n : ℕ) (t : List ℕ) : Type 0 where
 
 -- A charge: what each of its three answers needs.
 pub gives-charge : {A : Type 0} {P : A → ℕ → List ℕ → Type 0} {R : Refusal → Type 0} (lent : Lent) (k : ℕ) (x : List ℕ) (a : A) (n : ℕ) (t : List ℕ)
-    → (lent .records < n + k → R tooFewRecords) → (lent .bytes < length t + length x → R tooLittleText)
+    → (lent .records < n + k → R TooFewRecords) → (lent .bytes < length t + length x → R TooLittleText)
     → (Within lent (n + k) (t ++ x) → P a (n + k) (t ++ x))
     → Gives P R (charge lent k x a n t)
 gives-charge {P} {R} lent k x a n t few little fits =

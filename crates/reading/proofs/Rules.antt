@@ -6,7 +6,9 @@ use lib.ListN.{length}
 use Rattle.key.specs.Keys.{Key, str}
 use Rattle.reading.specs.Values.{Label, labelKey, Value, uninitialized, null, noValue, string, map, sequence, Forest, none, child}
 use Rattle.reading.specs.Leaves.{Leaf}
-use Rattle.reading.specs.Refusals.{Refusal, sequenceOnMap, sequenceOnSingle, mapOnSequence, mapOnString, mapOnNull, noSuchPath}
+use Rattle.refusals.specs.declared.Refusal.{Refusal}
+use Rattle.refusals.specs.declared.Refusal.the-variants.{SequenceOnMap, SequenceOnSingle, MapOnSequence, MapOnString}
+use Rattle.refusals.specs.declared.Refusal.the-variants.{MapOnNull, NoSuchField}
 use Rattle.key.specs.KeyOrder.{compareKeys, choose}
 use Rattle.reading.specs.Charging.{Lent, Made, made, refused, Rule, over, bind, charge}
 use Rattle.reading.specs.Adding.{expectMap, expectSequence, leafText, valueAt, insertNew, enterNew, sequenceOfTwo, push, appendValue, appendEmptyKey, atEntry, insertUnique, unchanged, enterKey, noPath, atPath}
@@ -27,11 +29,11 @@ OfChildren = Key → Forest → ℕ → List ℕ → Made Forest → Type 0
 
 -- Refusals 6 to 10: the value isn't of the kind that is needed.
 pub data Unfit : Refusal → Type 0 where
-  onMap : Unfit sequenceOnMap
-  onSingle : Unfit sequenceOnSingle
-  onSequence : Unfit mapOnSequence
-  onString : Unfit mapOnString
-  onNull : Unfit mapOnNull
+  onMap : Unfit SequenceOnMap
+  onSingle : Unfit SequenceOnSingle
+  onSequence : Unfit MapOnSequence
+  onString : Unfit MapOnString
+  onNull : Unfit MapOnNull
 
 -- From a child's rule to its parent's.
 pub record Passes (P : OfValue) (Q : OfChildren) : Type 0 where
@@ -58,8 +60,8 @@ module _ {P : OfValue} {Q : OfChildren} (p : Passes P Q) where
       (λ e. p .later k m l v cs n t (atEntry k old new cs n t) e (at-entry k old new f g cs n t))
 
   -- If the property says nothing of a path that leads nowhere.
-  module _ (astray : (v : Value) (n : ℕ) (t : List ℕ) → P v n t (refused noSuchPath))
-      (astrayAt : (k : Key) (cs : Forest) (n : ℕ) (t : List ℕ) → Q k cs n t (refused noSuchPath)) where
+  module _ (astray : (v : Value) (n : ℕ) (t : List ℕ) → P v n t (refused NoSuchField))
+      (astrayAt : (k : Key) (cs : Forest) (n : ℕ) (t : List ℕ) → Q k cs n t (refused NoSuchField)) where
     pub at-path : (ks : List Key) (rule : Rule Value) → Obeys P rule → Obeys P (atPath ks rule)
     at-path [] rule h v n t = h v n t
     at-path (k ∷ ks) rule h uninitialized n t = astray uninitialized n t

@@ -4,7 +4,7 @@ use mathlib.Core.List.{List, [], _∷_}
 use lib.ListN.{length}
 use Rattle.config.specs.declared.Config.{Config}
 use Rattle.reading.specs.Values.{Value}
-use Rattle.reading.specs.Refusals.{Refusal}
+use Rattle.refusals.specs.declared.Refusal.{Refusal}
 use Rattle.reading.specs.Charging.{Lent, Made}
 use Rattle.reading.specs.Taking.{Symbol, Token, token}
 use Rattle.reading.specs.Scanning.{Command, Mode, step, finish}

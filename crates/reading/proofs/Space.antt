@@ -13,7 +13,9 @@ use Rattle.decode.proofs.Loops.{decoded-le}
 use Rattle.key.specs.Keys.{Key, int, str, valueFrom, isInt, keyOf}
 use Rattle.reading.specs.Values.{unkeyed, Value, uninitialized, null, noValue, string, map, sequence, Forest, none, child}
 use Rattle.reading.specs.Leaves.{Leaf, valueOf}
-use Rattle.reading.specs.Refusals.{Refusal, code, tooDeep, tooLong}
+use Rattle.refusals.specs.declared.Refusal.{Refusal}
+use Rattle.refusals.specs.declared.Refusal.the-variants.{TooDeep, TooLong}
+use Rattle.refusals.specs.Codes.{code}
 use Rattle.reading.specs.Charging.{Lent, Made, made, over, bind, charge}
 use Rattle.reading.specs.Adding.{expectMap, expectSequence, keyText, leafText, labelAt, valueAt, snoc, push, insertUnique, enterKey}
 use Rattle.reading.specs.Taking.{Symbol, ampersand, equals, opening, closing, other, Token, tokens}
@@ -315,6 +317,6 @@ outcome-fine words bytes (refusesAt {x = x} h) = not-for-space x h
 -- Where n + 1 records are lent there is at least one, so that 3 isn't met either.
 pub space : Space
 space config input words text h =
-    reading-cases (λ o. NotForSpace (o .number)) config input words text (not-for-space tooDeep tt) (not-for-space tooLong tt)
+    reading-cases (λ o. NotForSpace (o .number)) config input words text (not-for-space TooDeep tt) (not-for-space TooLong tt)
     (λ few. absurd (omega (arith, h .records)))
     (λ e. outcome-fine (length words) (length text) (parsed-fine config input (lentBy words text) (h .records) (h .text)))

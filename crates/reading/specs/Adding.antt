@@ -5,7 +5,8 @@ use lib.ListN.{length}
 use Rattle.key.specs.Keys.{Key, int, str}
 use Rattle.reading.specs.Values.{Label, unkeyed, intKey, stringKey, labelKey, Value, uninitialized, null, noValue, string, map, sequence, Forest, none, child}
 use Rattle.reading.specs.Leaves.{Leaf}
-use Rattle.reading.specs.Refusals.{sequenceOnMap, sequenceOnSingle, mapOnSequence, mapOnString, mapOnNull, noSuchPath}
+use Rattle.refusals.specs.declared.Refusal.the-variants.{SequenceOnMap, SequenceOnSingle, MapOnSequence, MapOnString}
+use Rattle.refusals.specs.declared.Refusal.the-variants.{MapOnNull, NoSuchField}
 use Rattle.key.specs.KeyOrder.{compareKeys, choose}
 use Rattle.reading.specs.Charging.{Lent, Made, made, refused, Rule, over, bind, charge}
 
@@ -13,19 +14,19 @@ use Rattle.reading.specs.Charging.{Lent, Made, made, refused, Rule, over
 -- the map.
 abbrev pub expectMap : Value → ℕ → List ℕ → Made Forest
 expectMap uninitialized used text = made none used text
-expectMap null used text = refused mapOnNull
-expectMap noValue used text = refused mapOnNull
-expectMap (string o x) used text = refused mapOnString
+expectMap null used text = refused MapOnNull
+expectMap noValue used text = refused MapOnNull
+expectMap (string o x) used text = refused MapOnString
 expectMap (map children) used text = made children used text
-expectMap (sequence children) used text = refused mapOnSequence
+expectMap (sequence children) used text = refused MapOnSequence
 
 -- "`]`: Uninitialized becomes Sequence, a Sequence serves, the rest refuse (6, 7)."
 abbrev pub expectSequence : Value → ℕ → List ℕ → Made Forest
 expectSequence uninitialized used text = made none used text
-expectSequence null used text = refused sequenceOnSingle
-expectSequence noValue used text = refused sequenceOnSingle
-expectSequence (string o x) used text = refused sequenceOnSingle
-expectSequence (map children) used text = refused sequenceOnMap
+expectSequence null used text = refused SequenceOnSingle
+expectSequence noValue used text = refused SequenceOnSingle
+expectSequence (string o x) used text = refused SequenceOnSingle
+expectSequence (map children) used text = refused SequenceOnMap
 expectSequence (sequence children) used text = made children used text
 
 -- The text that a new key and a new value take.
@@ -125,14 +126,14 @@ enterKey lent key value used text =
 
 -- No value stands there. No reading comes to it (specs/Answers).
 abbrev pub noPath : {A : Type 0} → Rule A
-noPath a used text = refused noSuchPath
+noPath a used text = refused NoSuchField
 
 -- A rule at the value that the keys lead to from here.
 abbrev pub atPath : List Key → Rule Value → Rule Value
 atPath [] rule value used text = rule value used text
-atPath (key ∷ keys) rule uninitialized used text = refused noSuchPath
-atPath (key ∷ keys) rule null used text = refused noSuchPath
-atPath (key ∷ keys) rule noValue used text = refused noSuchPath
-atPath (key ∷ keys) rule (string o x) used text = refused noSuchPath
-atPath (key ∷ keys) rule (sequence children) used text = refused noSuchPath
+atPath (key ∷ keys) rule uninitialized used text = refused NoSuchField
+atPath (key ∷ keys) rule null used text = refused NoSuchField
+atPath (key ∷ keys) rule noValue used text = refused NoSuchField
+atPath (key ∷ keys) rule (string o x) used text = refused NoSuchField
+atPath (key ∷ keys) rule (sequence children) used text = refused NoSuchField
 atPath (key ∷ keys) rule (map children) used text = over map (atEntry key (atPath keys rule) noPath children used text)

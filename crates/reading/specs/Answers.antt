@@ -5,12 +5,12 @@ use mathlib.Core.Path.{_≡_}
 use mathlib.Core.List.{List}
 use lib.ListN.{length, drop, replicate}
 use Rattle.config.specs.declared.Config.{Config}
-use Rattle.config.specs.Limits.{recordWidth}
+use Rattle.row.specs.Row.{recordWidth}
 use Rattle.reading.specs.Reading.{Outcome, reading}
 
 -- The outcome of a reading that was lent these words and this text.
 pub record Answered (words text : List ℕ) (o : Outcome) : Type 0 where
-  -- a number of document 01's, so never that of `noSuchPath`
+  -- a number of document 01's, so never that of `NoSuchField`
   pub numbered : o .number ≤ 15
   -- "number (0 accepted), place (0 if accepted)"
   pub acceptedPlace : o .number ≡ 0 → o .place ≡ 0

@@ -4,7 +4,8 @@ use mathlib.Core.Bool.{cond}
 use mathlib.Core.List.{List, _++_}
 use lib.Dec.{ltb}
 use lib.ListN.{length}
-use Rattle.reading.specs.Refusals.{Refusal, tooFewRecords, tooLittleText}
+use Rattle.refusals.specs.declared.Refusal.{Refusal}
+use Rattle.refusals.specs.declared.Refusal.the-variants.{TooFewRecords, TooLittleText}
 
 -- What is lent: records, and bytes of text.
 pub record Lent : Type 0 where
@@ -33,6 +34,6 @@ bind (refused x) f = refused x
 -- "Space is checked just before each of these": for some more records and more text. "of 14 and 15 together, 14"
 abbrev pub charge : {A : Type 0} → Lent → ℕ → List ℕ → Rule A
 charge lent records more a used text =
-    cond (ltb (lent .records) (used + records)) (refused tooFewRecords)
-    (cond (ltb (lent .bytes) (length text + length more)) (refused tooLittleText)
+    cond (ltb (lent .records) (used + records)) (refused TooFewRecords)
+    (cond (ltb (lent .bytes) (length text + length more)) (refused TooLittleText)
     (made a (used + records) (text ++ more)))

@@ -4,7 +4,7 @@ use Prim.Native.Nat.{ℕ, _+_, _≤_}
 use mathlib.Core.List.{List, [], _∷_}
 use lib.ListN.{length}
 use Rattle.reading.specs.Values.{Value, uninitialized, null, noValue, string, map, sequence}
-use Rattle.reading.specs.Refusals.{Refusal}
+use Rattle.refusals.specs.declared.Refusal.{Refusal}
 use Rattle.reading.specs.Charging.{Made, made, refused}
 use Rattle.reading.specs.Adding.{keyText}
 use Rattle.reading.specs.Scanning.{Target, root, under, last, Mode, rootKey, value, bracket, keyBelowDepth, keyAtDepth, afterKey, afterBrackets}

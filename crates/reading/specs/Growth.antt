@@ -4,6 +4,7 @@ use Prim.Native.Nat.{ℕ, _+_, _≤_, _<_}
 use mathlib.Core.Path.{_≡_}
 use mathlib.Core.List.{List, [], _∷_, _++_}
 use lib.ListN.{length}
+use Rattle.ascii.specs.Bytes.{ampersand}
 use Rattle.config.specs.declared.Config.{Config}
 use Rattle.config.specs.Limits.{maxLen}
 use Rattle.reading.specs.Reading.{Outcome, reading}
@@ -28,9 +29,9 @@ pub record Grew (n : ℕ) (o g : Outcome) : Type 0 where
   -- if o is refused lastingly, g is refused by the same number at the same place
   pub stands : Lasting (o .number) → (g .number ≡ o .number) × (g .place ≡ o .place)
 
--- A and then A, `&` (38), B: read at the same settings, the second with buffers at least as large, whatever the buffers held before.
+-- A and then A, `&`, B: read at the same settings, the second with buffers at least as large, whatever the buffers held before.
 abbrev pub Growth : Type 0
 Growth =
     (config : Config) (A B words words′ text text′ : List ℕ)
-    → (A ≡ [] → ⊥) → length (A ++ (38 ∷ B)) ≤ maxLen → length words ≤ length words′ → length text ≤ length text′
-    → Grew (length A) (reading config A words text) (reading config (A ++ (38 ∷ B)) words′ text′)
+    → (A ≡ [] → ⊥) → length (A ++ (ampersand ∷ B)) ≤ maxLen → length words ≤ length words′ → length text ≤ length text′
+    → Grew (length A) (reading config A words text) (reading config (A ++ (ampersand ∷ B)) words′ text′)

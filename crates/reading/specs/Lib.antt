@@ -1,6 +1,5 @@
 pub mod Values
 pub mod Leaves
-pub mod Refusals
 pub mod Charging
 pub mod Adding
 pub mod Taking

@@ -9,7 +9,8 @@ use Rattle.reading.specs.Reading.{Outcome, reading}
 use Rattle.reading.specs.Trees.{Tree}
 use Rattle.reading.specs.Buffers.{treeIn}
 use Rattle.reading.specs.Keeping.{KeepsTree}
-use Rattle.reading.specs.Tests.{ascii, before}
+use Rattle.ascii.specs.Texts.{ascii}
+use Rattle.reading.specs.Tests.{before}
 
 -- The reading of an input at the default settings, into 8 records and 16 bytes of text.
 abbrev pub readOf : String → Outcome

@@ -6,9 +6,12 @@ use mathlib.Core.List.{List, [], _∷_, _++_}
 use lib.Dec.{ltb}
 use lib.ListN.{length, replicate}
 use Rattle.config.specs.declared.Config.{Config}
-use Rattle.config.specs.Limits.{maxDepth, maxLen, recordWidth}
+use Rattle.config.specs.Limits.{maxDepth, maxLen}
+use Rattle.row.specs.Row.{recordWidth}
 use Rattle.reading.specs.Values.{uninitialized, noValue}
-use Rattle.reading.specs.Refusals.{Refusal, code, tooDeep, tooLong, noRecord}
+use Rattle.refusals.specs.declared.Refusal.{Refusal}
+use Rattle.refusals.specs.declared.Refusal.the-variants.{TooDeep, TooLong, NoRecord}
+use Rattle.refusals.specs.Codes.{code}
 use Rattle.reading.specs.Charging.{Lent}
 use Rattle.reading.specs.Taking.{tokens}
 use Rattle.reading.specs.Scanning.{rootKey}
@@ -56,6 +59,6 @@ unread x words text = record { number = code x; place = 0; records = 0; bytes = 
 unfoldable pub reading : Config → List ℕ → List ℕ → List ℕ → Outcome
 reading config input words text =
     let read = outcome (length words) (length text) (parsed config input (lentBy words text)) in
-    cond (ltb maxDepth (config .depth)) (unread tooDeep words text)
-    (cond (ltb maxLen (length input)) (unread tooLong words text)
-    (cond (ltb (length words) recordWidth) (unread noRecord words text) read))
+    cond (ltb maxDepth (config .depth)) (unread TooDeep words text)
+    (cond (ltb maxLen (length input)) (unread TooLong words text)
+    (cond (ltb (length words) recordWidth) (unread NoRecord words text) read))

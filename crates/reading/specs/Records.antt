@@ -4,24 +4,25 @@ use mathlib.Core.Bool.{cond}
 use mathlib.Core.List.{List, [], _∷_, _++_}
 use lib.Dec.{eqb}
 use lib.ListN.{length, replicate}
-use Rattle.config.specs.Limits.{recordWidth}
+use Rattle.row.specs.Row.{recordWidth, noKeyKind, intKeyKind, stringKeyKind}
+use Rattle.row.specs.Row.{uninitializedKind, mapKind, sequenceKind, stringKind, nullKind, noValueKind}
 use Rattle.reading.specs.Values.{Label, unkeyed, intKey, stringKey, Value, uninitialized, null, noValue, string, map, sequence, Forest, none, child}
 
 -- "0 kind: 0 Uninitialized, 1 Map, 2 Sequence, 3 String, 4 Null, 5 NoValue"
 abbrev pub kind : Value → ℕ
-kind uninitialized = 0
-kind (map children) = 1
-kind (sequence children) = 2
-kind (string o x) = 3
-kind null = 4
-kind noValue = 5
+kind uninitialized = uninitializedKind
+kind (map children) = mapKind
+kind (sequence children) = sequenceKind
+kind (string o x) = stringKind
+kind null = nullKind
+kind noValue = noValueKind
 
 -- "1 key kind: 0 none, 1 Int, 2 String"; "2 Int value or key's text offset (0 for an empty key); 3 key length (0 for Int); both 0 for key
 -- kind 0"
 abbrev pub keyWords : Label → List ℕ
-keyWords unkeyed = 0 ∷ 0 ∷ 0 ∷ []
-keyWords (intKey a) = 1 ∷ a ∷ 0 ∷ []
-keyWords (stringKey o x) = 2 ∷ o ∷ length x ∷ []
+keyWords unkeyed = noKeyKind ∷ 0 ∷ 0 ∷ []
+keyWords (intKey a) = intKeyKind ∷ a ∷ 0 ∷ []
+keyWords (stringKey o x) = stringKeyKind ∷ o ∷ length x ∷ []
 
 -- "4, 5 value's text offset and length, both 0 unless String"
 abbrev pub textOffset : Value → ℕ

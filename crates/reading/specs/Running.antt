@@ -5,7 +5,7 @@ use mathlib.Core.List.{List, [], _∷_}
 use lib.ListN.{length}
 use Rattle.config.specs.declared.Config.{Config}
 use Rattle.reading.specs.Values.{Value, map, sequence}
-use Rattle.reading.specs.Refusals.{Refusal}
+use Rattle.refusals.specs.declared.Refusal.{Refusal}
 use Rattle.reading.specs.Charging.{Lent, Made, made, refused, over, bind}
 use Rattle.reading.specs.Adding.{expectMap, expectSequence, push, appendValue, insertUnique, enterKey, atPath}
 use Rattle.reading.specs.Taking.{Token, token}

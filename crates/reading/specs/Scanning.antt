@@ -7,7 +7,9 @@ use lib.Dec.{ltb, eqb}
 use Rattle.config.specs.declared.Config.{Config}
 use Rattle.key.specs.Keys.{Key, keyOf}
 use Rattle.reading.specs.Leaves.{Leaf, noValue, valueOf}
-use Rattle.reading.specs.Refusals.{Refusal, endAfterOpening, endBeforeClosing, byteAfterKey, openingAfterBrackets, byteAfterBrackets}
+use Rattle.refusals.specs.declared.Refusal.{Refusal}
+use Rattle.refusals.specs.declared.Refusal.the-variants.{EndAfterOpening, EndBeforeClosing, ByteAfterKey}
+use Rattle.refusals.specs.declared.Refusal.the-variants.{OpeningAfterBrackets, ByteAfterBrackets}
 use Rattle.reading.specs.Taking.{Symbol, ampersand, equals, opening, closing, other}
 
 -- Where a value goes: it is added to the root itself, put under a key of the map at a path, or last in the sequence at a path. A path is
@@ -57,8 +59,8 @@ finish config (rootKey (b ∷ s)) = add (under [] (keyOf config (b ∷ s))) noVa
 -- "Bytes up to `&` or end."
 finish config (value target s) = add target (valueOf s)
 -- "Take a byte; end refuses 4.", "take until `]` (end refuses 5)"
-finish config (bracket path level opened) = refuse endAfterOpening
-finish config (keyBelowDepth path level s) = refuse endBeforeClosing
+finish config (bracket path level opened) = refuse EndAfterOpening
+finish config (keyBelowDepth path level s) = refuse EndBeforeClosing
 -- "At the depth, the key runs on to the next `=`, `&` or end"
 finish config (keyAtDepth path s) = add (under path (keyOf config s)) noValue
 -- "Then `&` or end puts NoValue"
@@ -112,11 +114,11 @@ step config (keyAtDepth path s) other raw = skip then keyAtDepth path (s ++ raw)
 step config (afterKey path level key) ampersand raw = finish config (afterKey path level key) then rootKey []
 step config (afterKey path level key) equals raw = skip then value (under path key) []
 step config (afterKey path level key) opening raw = enter path key then bracket (path ++ (key ∷ [])) (level + 1) raw
-step config (afterKey path level key) closing raw = refuse byteAfterKey then rootKey []
-step config (afterKey path level key) other raw = refuse byteAfterKey then rootKey []
+step config (afterKey path level key) closing raw = refuse ByteAfterKey then rootKey []
+step config (afterKey path level key) other raw = refuse ByteAfterKey then rootKey []
 -- "Then `=` takes and adds a value, `&` or end adds NoValue, others refuse (12, 13)."
 step config (afterBrackets path) ampersand raw = finish config (afterBrackets path) then rootKey []
 step config (afterBrackets path) equals raw = skip then value (last path) []
-step config (afterBrackets path) opening raw = refuse openingAfterBrackets then rootKey []
-step config (afterBrackets path) closing raw = refuse byteAfterBrackets then rootKey []
-step config (afterBrackets path) other raw = refuse byteAfterBrackets then rootKey []
+step config (afterBrackets path) opening raw = refuse OpeningAfterBrackets then rootKey []
+step config (afterBrackets path) closing raw = refuse ByteAfterBrackets then rootKey []
+step config (afterBrackets path) other raw = refuse ByteAfterBrackets then rootKey []

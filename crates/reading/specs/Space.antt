@@ -5,7 +5,8 @@ use mathlib.Core.Path.{_≡_}
 use mathlib.Core.List.{List}
 use lib.ListN.{length}
 use Rattle.config.specs.declared.Config.{Config}
-use Rattle.reading.specs.Refusals.{code, noRecord, tooFewRecords, tooLittleText}
+use Rattle.refusals.specs.declared.Refusal.the-variants.{NoRecord, TooFewRecords, TooLittleText}
+use Rattle.refusals.specs.Codes.{code}
 use Rattle.reading.specs.Charging.{Lent}
 use Rattle.reading.specs.Reading.{lentBy, reading}
 
@@ -17,9 +18,9 @@ pub record Enough (input : List ℕ) (lent : Lent) : Type 0 where
 -- The number of a reading that isn't refused for space: neither for lack of the first record (3), nor of a further one
 -- (14), nor of text (15).
 pub record NotForSpace (number : ℕ) : Type 0 where
-  pub first : number ≡ code noRecord → ⊥
-  pub records : number ≡ code tooFewRecords → ⊥
-  pub text : number ≡ code tooLittleText → ⊥
+  pub first : number ≡ code NoRecord → ⊥
+  pub records : number ≡ code TooFewRecords → ⊥
+  pub text : number ≡ code TooLittleText → ⊥
 
 abbrev pub Space : Type 0
 Space =

@@ -4,7 +4,8 @@ use mathlib.Core.Path.{_≡_}
 use mathlib.Core.List.{List, [], _∷_}
 use Rattle.config.specs.Defaults.{defaults}
 use Rattle.decode.specs.Whatwg.{whatwg}
-use Rattle.reading.specs.Tests.{ascii, holds, refuses, row, Test, test, usual, atDepth, formOn, AllPass}
+use Rattle.ascii.specs.Texts.{ascii}
+use Rattle.reading.specs.Tests.{holds, refuses, row, Test, test, usual, atDepth, formOn, AllPass}
 
 abbrev pub starred : List Test
 starred =

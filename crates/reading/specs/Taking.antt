@@ -3,6 +3,7 @@ use Prim.Native.Nat.{ℕ}
 use mathlib.Core.Bool.{cond, _&&_}
 use mathlib.Core.List.{List, [], _∷_}
 use lib.Dec.{eqb}
+use Rattle.ascii.specs.Bytes as byte
 use Rattle.config.specs.declared.Config.{Config}
 
 -- What a taking yields: `&`, `=`, `[`, `]` or another byte.
@@ -13,20 +14,24 @@ pub data Symbol : Type 0 where
 pub data Token : Type 0 where
   token : Symbol → ℕ → List ℕ → Token
 
--- `&` is 38, `=` 61, `[` 91, `]` 93.
+-- The byte of each.
 abbrev pub symbolOf : ℕ → Symbol
-symbolOf b = cond (eqb b 38) ampersand (cond (eqb b 61) equals (cond (eqb b 91) opening (cond (eqb b 93) closing other)))
+symbolOf b =
+    cond (eqb b byte.ampersand) ampersand
+    (cond (eqb b byte.equals) equals (cond (eqb b byte.opening) opening (cond (eqb b byte.closing) closing other)))
 
 -- "Each taking adds 1"
 abbrev pub byteToken : ℕ → Token
 byteToken b = token (symbolOf b) b []
 
--- Whether three bytes are "exactly `%5B` or `%5D` (capitals)". `%` is 37, `5` 53, `B` 66, `D` 68.
+-- Whether three bytes are "exactly `%5B` or `%5D` (capitals)".
 pub data Escape : Type 0 where
   opens closes neither : Escape
 
 abbrev pub escape : ℕ → ℕ → ℕ → Escape
-escape b c d = cond (eqb b 37 && eqb c 53) (cond (eqb d 66) opens (cond (eqb d 68) closes neither)) neither
+escape b c d =
+    cond (eqb b byte.percent && eqb c byte.five)
+    (cond (eqb d byte.capitalB) opens (cond (eqb d byte.capitalD) closes neither)) neither
 
 abbrev pub byEscape : {A : Type 0} → Escape → A → A → A → A
 byEscape opens x y z = x

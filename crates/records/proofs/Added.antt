@@ -15,8 +15,8 @@ use Rattle.records.specs.declared.siblings.Position.{Position}
 use Rattle.records.specs.declared.siblings.Position.the-variants.{Found, Between}
 use Rattle.records.specs.declared.store.ValueWords.{ValueWords}
 use Rattle.records.specs.declared.store.Record.{Record}
-use Rattle.records.specs.Words.{kindWord, uninitializedKind, mapKind, sequenceKind}
-use Rattle.records.specs.Store.{recordCount, word}
+use Rattle.row.specs.Row.{kindWord, uninitializedKind, mapKind, sequenceKind}
+use Rattle.row.specs.Words.{recordCount, word}
 use Rattle.records.specs.Records.{valueAt, withValue, inserted}
 use Rattle.records.specs.Keys.{meantKey}
 use Rattle.records.specs.Siblings.{children, lastOf, standing, position, WellFormed}

@@ -8,8 +8,8 @@ use lib.ListN.{length}
 use Rattle.records.specs.declared.keys.Ordering.{Ordering as KeyOrdering}
 use Rattle.records.specs.declared.keys.Ordering.the-variants.{Less, Equal, Greater}
 use Rattle.records.specs.declared.siblings.Position.the-variants.{Found, Between}
-use Rattle.records.specs.Words.{childWord, nextWord}
-use Rattle.records.specs.Store.{recordCount, word}
+use Rattle.row.specs.Row.{childWord, nextWord}
+use Rattle.row.specs.Words.{recordCount, word}
 use Rattle.records.specs.Order.{orderingOf}
 use Rattle.records.specs.Siblings.{chain, children, lastOf, seek, Within, Ends, Linked}
 

@@ -16,8 +16,8 @@ use Rattle.decode.proofs.Steps.{rest-zero, rest-done}
 use Rattle.key.specs.KeyOrder.{compareBytes, compareKeys, andThen}
 use Rattle.key.proofs.KeyOrders.{compare-less, compare-greater, compare-equal}
 use Rattle.records.specs.declared.keys.RawKey.the-variants.{Int, String}
-use Rattle.records.specs.Words.{keyKindWord, keyWord, keyLengthWord, intKeyKind}
-use Rattle.records.specs.Store.{word}
+use Rattle.row.specs.Row.{keyKindWord, keyWord, keyLengthWord, intKeyKind}
+use Rattle.row.specs.Words.{word}
 use Rattle.records.specs.Records.{keyWordsAt}
 use Rattle.records.specs.Keys.{storedKey, keyAt, InText, meantKey}
 

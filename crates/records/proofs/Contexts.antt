@@ -4,9 +4,9 @@ use mathlib.Core.List.{List}
 use Prim.Native.Nat.{ℕ, _+_, _≤_, _<_}
 use native.Mathlib.Omega.{arith}
 use native.Mathlib.Decide.{ℕ-discrete, decLt}
-use Rattle.config.specs.Limits.{recordWidth}
+use Rattle.row.specs.Row.{recordWidth}
 use Rattle.records.specs.declared.store.Record.{Record}
-use Rattle.records.specs.Store.{word}
+use Rattle.row.specs.Words.{word}
 use Rattle.records.specs.Nodes.{Nodes, nil, node, first, size, indicator, count, Context, here, down, along, plug}
 use Rattle.records.specs.Holds.{Row, Represents, Rising}
 use Rattle.records.proofs.Forests.{indicator-same, indicator-other, row-kept, frame}

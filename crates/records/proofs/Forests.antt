@@ -6,10 +6,10 @@ use Prim.Native.Nat.{ℕ, zero, suc, _≤_, _<_}
 use native.Mathlib.Omega.{arith}
 use borrow.Author.Tests.{eq-eqb, ne-eqb}
 use lib.ListN.{length, getD}
-use Rattle.config.specs.Limits.{recordWidth}
+use Rattle.row.specs.Row.{recordWidth}
 use Rattle.records.specs.declared.store.Record.{Record}
-use Rattle.records.specs.Words.{childWord, nextWord}
-use Rattle.records.specs.Store.{word}
+use Rattle.row.specs.Row.{childWord, nextWord}
+use Rattle.row.specs.Words.{word}
 use Rattle.records.specs.Records.{keyWordsAt, valueAt, recordAt}
 use Rattle.records.specs.Siblings.{chain}
 use Rattle.records.specs.Nodes.{Nodes, nil, node, first, size, indicator, count}

@@ -8,8 +8,8 @@ use native.Mathlib.Decide.{decLt}
 use lib.ListN.{length}
 use Rattle.key.specs.Keys.{Key}
 use Rattle.records.specs.declared.store.Record.{Record}
-use Rattle.records.specs.Words.{kindWord, keyWord, keyLengthWord, childWord}
-use Rattle.records.specs.Store.{recordCount, word}
+use Rattle.row.specs.Row.{kindWord, keyWord, keyLengthWord, childWord}
+use Rattle.row.specs.Words.{recordCount, word}
 use Rattle.records.specs.Records.{keyWordsAt, valueAt}
 use Rattle.records.specs.Keys.{InText}
 use Rattle.records.specs.Siblings.{children, position, Within, WellFormed}

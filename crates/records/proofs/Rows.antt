@@ -9,14 +9,14 @@ use native.Mathlib.Decide.{ℕ-discrete}
 use borrow.Author.Tests.{eq-eqb, ne-eqb}
 use lib.Dec.{eqb}
 use lib.ListN.{length}
-use Rattle.config.specs.Limits.{recordWidth}
+use Rattle.row.specs.Row.{recordWidth}
 use Rattle.records.specs.declared.store.ValueWords.{ValueWords}
 use Rattle.records.specs.declared.store.Record.{Record}
-use Rattle.records.specs.Words.{childWord, nextWord}
-use Rattle.records.specs.Store.{recordCount, word, withWord}
+use Rattle.row.specs.Row.{childWord, nextWord}
+use Rattle.row.specs.Words.{recordCount, word, withWord}
 use Rattle.records.specs.Records.{keyWordsAt, valueAt, keyFields, valueFields, recordFields, withWords, withValue, withRecord, linked}
 use Rattle.records.specs.Holds.{Row}
-use Rattle.records.proofs.Words.{length-withWord, word-same, word-far, word-near}
+use Rattle.row.proofs.Words.{length-withWord, word-same, word-far, word-near}
 
 -- The numbers of the words to be written are those of a record.
 abbrev InRecord : List (ℕ × ℕ) → Type 0

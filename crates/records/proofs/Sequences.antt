@@ -6,8 +6,8 @@ use native.Mathlib.Omega.{arith}
 use Rattle.records.specs.declared.siblings.Position.the-variants.{Between}
 use Rattle.records.specs.declared.store.ValueWords.{ValueWords}
 use Rattle.records.specs.declared.store.Record.{Record}
-use Rattle.records.specs.Words.{sequenceKind}
-use Rattle.records.specs.Store.{recordCount}
+use Rattle.row.specs.Row.{sequenceKind}
+use Rattle.row.specs.Words.{recordCount}
 use Rattle.records.specs.Records.{valueAt, withValue, inserted}
 use Rattle.records.specs.Siblings.{children, lastOf}
 use Rattle.records.specs.Adding.{unkeyed, childless, sequenceOfTwo}

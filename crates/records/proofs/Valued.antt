@@ -5,10 +5,10 @@ use Prim.Native.Nat.{ℕ, _+_, _<_}
 use native.Mathlib.Omega.{arith}
 use native.Mathlib.Decide.{ℕ-discrete}
 use lib.ListN.{length}
-use Rattle.config.specs.Limits.{recordWidth}
+use Rattle.row.specs.Row.{recordWidth}
 use Rattle.records.specs.declared.store.ValueWords.{ValueWords}
 use Rattle.records.specs.declared.store.Record.{Record}
-use Rattle.records.specs.Store.{word}
+use Rattle.row.specs.Words.{word}
 use Rattle.records.specs.Records.{keyWordsAt, valueFields, withValue}
 use Rattle.records.specs.Keys.{InText}
 use Rattle.records.specs.Nodes.{Nodes, node, first, size, count, Context, here, down, along, plug}

@@ -2,10 +2,10 @@
 use Prim.Native.Nat.{ℕ, _<_, _≤_}
 use mathlib.Core.Path.{_≡_}
 use mathlib.Core.List.{List}
-use Rattle.config.specs.Limits.{recordWidth}
+use Rattle.row.specs.Row.{recordWidth}
 use Rattle.records.specs.declared.store.Record.{Record}
-use Rattle.records.specs.Words.{childWord, nextWord}
-use Rattle.records.specs.Store.{recordCount, word}
+use Rattle.row.specs.Row.{childWord, nextWord}
+use Rattle.row.specs.Words.{recordCount, word}
 use Rattle.records.specs.Records.{keyWordsAt, recordAt}
 use Rattle.records.specs.Keys.{InText}
 use Rattle.records.specs.Nodes.{Nodes, nil, node, first, size, count}

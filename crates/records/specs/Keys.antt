@@ -10,7 +10,7 @@ use Rattle.key.specs.Keys.{Key, int, str}
 use Rattle.records.specs.declared.keys.RawKey.{RawKey}
 use Rattle.records.specs.declared.keys.RawKey.the-variants.{Int, String}
 use Rattle.records.specs.declared.store.KeyWords.{KeyWords}
-use Rattle.records.specs.Words.{intKeyKind}
+use Rattle.row.specs.Row.{intKeyKind}
 use Rattle.records.specs.Records.{keyWordsAt}
 
 -- The key that a record's words say: an Int, or else a part of the text. Key kind 0 falls under the second, as in the code, but only

@@ -6,8 +6,8 @@ use lib.Dec.{eqb}
 use Rattle.records.specs.declared.store.KeyWords.{KeyWords}
 use Rattle.records.specs.declared.store.ValueWords.{ValueWords}
 use Rattle.records.specs.declared.store.Record.{Record}
-use Rattle.records.specs.Words.{kindWord, keyKindWord, keyWord, keyLengthWord, textWord, textLengthWord, childWord, nextWord}
-use Rattle.records.specs.Store.{word, withWord}
+use Rattle.row.specs.Row.{kindWord, keyKindWord, keyWord, keyLengthWord, textWord, textLengthWord, childWord, nextWord}
+use Rattle.row.specs.Words.{word, withWord}
 
 -- The key of record n.
 unfoldable pub keyWordsAt : List ℕ → ℕ → KeyWords

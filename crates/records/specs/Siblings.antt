@@ -6,8 +6,8 @@ use Rattle.key.specs.Keys.{Key}
 use Rattle.key.specs.KeyOrder.{compareKeys, choose}
 use Rattle.records.specs.declared.siblings.Position.{Position}
 use Rattle.records.specs.declared.siblings.Position.the-variants.{Found, Between}
-use Rattle.records.specs.Words.{childWord, nextWord}
-use Rattle.records.specs.Store.{recordCount, word}
+use Rattle.row.specs.Row.{childWord, nextWord}
+use Rattle.row.specs.Words.{recordCount, word}
 use Rattle.records.specs.Records.{keyWordsAt}
 use Rattle.records.specs.Keys.{keyAt, InText}
 

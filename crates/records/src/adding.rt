@@ -1,7 +1,7 @@
 // A value added at a record: the work of the source's `append_value` on the words.
 ghost use mathlib.Core.Path.{_≡_};
 ghost use Prim.Native.Nat.{ℕ, _+_, _-_, _<_, _≤_, _^_};
-ghost use Rattle.records.specs.Store.{recordCount};
+ghost use Rattle.row.specs.Words.{recordCount};
 ghost use Rattle.records.specs.Siblings.{Linked, WellFormed};
 ghost use Rattle.records.specs.Adding.{unkeyed, emptyKeyed, Leaves, childAdded, pushed, sequenceOfTwo, paired, appendedHere, appended};
 use crate::keys::RawKey;
@@ -24,7 +24,7 @@ fn unkeyed(value: ValueWords) -> Record
 {
     Record {
         key: KeyWords {
-            kind: store::NO_KEY,
+            kind: row::NO_KEY,
             offset: 0,
             len: 0,
         },
@@ -38,7 +38,7 @@ fn empty_keyed(value: ValueWords) -> Record
 {
     Record {
         key: KeyWords {
-            kind: store::STRING_KEY,
+            kind: row::STRING_KEY,
             offset: 0,
             len: 0,
         },
@@ -58,7 +58,7 @@ fn add_child(
     requires { ⌜ (n < recordCount (now words)) × (prev < recordCount (now words)) × (used + 2 < 2 ^ 32) ⌝ }
     ensures { λ r. ⌜ Leaves (childAdded (now (words .entry)) used n prev next value) (now (words .exit)) r ⌝ }
 {
-    if store::has_room(words, used + 1) {
+    if row::has_room(words, used + 1) {
         siblings::insert(words, used, n, prev, next, empty_keyed(value));
         Appended::Used(used + 1)
     } else {
@@ -71,7 +71,7 @@ fn push(words: &mut [u32], used: u32, n: u32, value: ValueWords) -> Appended
     requires { ⌜ Linked (now words) ⌝ ∗ ⌜ (n < recordCount (now words)) × (used + 2 < 2 ^ 32) ⌝ }
     ensures { λ r. ⌜ Leaves (pushed (now (words .entry)) used n value) (now (words .exit)) r ⌝ }
 {
-    if store::has_room(words, used + 1) {
+    if row::has_room(words, used + 1) {
         let prev = siblings::last_child(words, n);
         siblings::insert(words, used, n, prev, 0, unkeyed(value));
         Appended::Used(used + 1)
@@ -88,7 +88,7 @@ fn make_sequence(words: &mut [u32], used: u32, n: u32, value: ValueWords)
 {
     let old = store::get_value(words, n);
     let sequence = ValueWords {
-        kind: store::SEQUENCE,
+        kind: row::SEQUENCE,
         offset: 0,
         len: 0,
     };
@@ -102,7 +102,7 @@ fn pair(words: &mut [u32], used: u32, n: u32, value: ValueWords) -> Appended
     requires { ⌜ (n < recordCount (now words)) × (used + 2 < 2 ^ 32) ⌝ }
     ensures { λ r. ⌜ Leaves (paired (now (words .entry)) used n value) (now (words .exit)) r ⌝ }
 {
-    if store::has_room(words, used + 2) {
+    if row::has_room(words, used + 2) {
         make_sequence(words, used, n, value);
         Appended::Used(used + 2)
     } else {
@@ -115,12 +115,12 @@ fn append_here(words: &mut [u32], used: u32, n: u32, value: ValueWords) -> Appen
     requires { ⌜ Linked (now words) ⌝ ∗ ⌜ (n < recordCount (now words)) × (used + 2 < 2 ^ 32) ⌝ }
     ensures { λ r. ⌜ Leaves (appendedHere (now (words .entry)) used n value) (now (words .exit)) r ⌝ }
 {
-    let kind = store::get_word(words, n, store::KIND);
-    if kind == store::UNINITIALIZED {
+    let kind = row::get_word(words, n, row::KIND);
+    if kind == row::UNINITIALIZED {
         store::set_value(words, n, value);
         return Appended::Used(used);
     }
-    if kind == store::SEQUENCE {
+    if kind == row::SEQUENCE {
         return push(words, used, n, value);
     }
     pair(words, used, n, value)
@@ -133,7 +133,7 @@ pub fn append(words: &mut [u32], text: &[u8], used: u32, n: u32, value: ValueWor
     ensures { λ r. ⌜ ((fuel : ℕ) → recordCount (now (words .entry)) - n ≤ fuel
         → Leaves (appended fuel (now (words .entry)) (now (text .entry)) used n value) (now (words .exit)) r) ⌝ }
 {
-    if store::get_word(words, n, store::KIND) == store::MAP {
+    if row::get_word(words, n, row::KIND) == row::MAP {
         match siblings::find(words, text, n, RawKey::String, b"") {
             Position::Found(m) => append(words, text, used, m, value),
             Position::Between(prev, next) => add_child(words, used, n, prev, next, value),

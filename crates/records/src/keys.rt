@@ -2,7 +2,7 @@
 ghost use mathlib.Core.Path.{_≡_};
 ghost use Prim.Native.Nat.{_<_, compare};
 ghost use Rattle.decode.specs.Decoding.{decoded};
-ghost use Rattle.records.specs.Store.{recordCount};
+ghost use Rattle.row.specs.Words.{recordCount};
 ghost use Rattle.key.specs.KeyOrder.{compareBytes, compareKeys};
 ghost use Rattle.records.specs.Order.{orderingOf};
 ghost use Rattle.records.specs.Keys.{keyAt, meantKey, InText};
@@ -72,21 +72,21 @@ pub(crate) fn compare_key(words: &[u32], text: &[u8], n: u32, key: RawKey, raw: 
     requires { ⌜ (n < recordCount (now words)) × InText (now text) (keyWordsAt (now words) n) ⌝ }
     ensures { λ r. ⌜ orderingOf r ≡ compareKeys (keyAt (now (words .entry)) (now (text .entry)) n) (meantKey key (now (raw .entry))) ⌝ }
 {
-    let kind = store::get_word(words, n, store::KEY_KIND);
+    let kind = row::get_word(words, n, row::KEY_KIND);
     match key {
         RawKey::Int(int) => {
-            if kind == store::INT_KEY {
-                compare_ints(store::get_word(words, n, store::KEY), int)
+            if kind == row::INT_KEY {
+                compare_ints(row::get_word(words, n, row::KEY), int)
             } else {
                 Ordering::Greater
             }
         }
         RawKey::String => {
-            if kind == store::INT_KEY {
+            if kind == row::INT_KEY {
                 return Ordering::Less;
             }
-            let start = store::get_word(words, n, store::KEY) as usize;
-            let end = start + store::get_word(words, n, store::KEY_LEN) as usize;
+            let start = row::get_word(words, n, row::KEY) as usize;
+            let end = start + row::get_word(words, n, row::KEY_LEN) as usize;
             compare_bytes(&text[start..end], raw)
         }
     }

@@ -1,7 +1,7 @@
 // Lists of siblings: a child found by its key, the last child, and a new child put in.
 ghost use mathlib.Core.Path.{_≡_};
 ghost use Prim.Native.Nat.{_<_};
-ghost use Rattle.records.specs.Store.{recordCount};
+ghost use Rattle.row.specs.Words.{recordCount};
 ghost use Rattle.records.specs.Keys.{meantKey};
 ghost use Rattle.records.specs.Siblings.{chain, children, standing, seek, position, lastOf, Ends, Linked, WellFormed};
 ghost use Rattle.records.specs.Records.{linked, inserted};
@@ -29,7 +29,7 @@ fn walk(words: &[u32], text: &[u8], before: u32, first: u32, key: RawKey, raw: &
         match keys::compare_key(words, text, cur, key, raw) {
             Ordering::Less => {
                 prev = cur;
-                cur = store::get_word(words, cur, store::NEXT);
+                cur = row::get_word(words, cur, row::NEXT);
             }
             Ordering::Equal => {
                 return Position::Found(cur);
@@ -47,7 +47,7 @@ pub fn find(words: &[u32], text: &[u8], parent: u32, key: RawKey, raw: &[u8]) ->
     requires { ⌜ WellFormed (now words) (now text) ⌝ ∗ ⌜ parent < recordCount (now words) ⌝ }
     ensures { λ r. ⌜ r ≡ position (now (words .entry)) (now (text .entry)) (meantKey key (now (raw .entry))) parent ⌝ }
 {
-    let first = store::get_word(words, parent, store::CHILD);
+    let first = row::get_word(words, parent, row::CHILD);
     walk(words, text, 0, first, key, raw)
 }
 
@@ -57,10 +57,10 @@ pub fn last_child(words: &[u32], parent: u32) -> u32
     ensures { λ r. ⌜ r ≡ lastOf 0 (children (now (words .entry)) parent) ⌝ }
 {
     let mut prev = 0;
-    let mut cur = store::get_word(words, parent, store::CHILD);
+    let mut cur = row::get_word(words, parent, row::CHILD);
     while cur != 0 {
         prev = cur;
-        cur = store::get_word(words, cur, store::NEXT);
+        cur = row::get_word(words, cur, row::NEXT);
     }
     prev
 }
@@ -71,9 +71,9 @@ fn link(words: &mut [u32], parent: u32, prev: u32, new: u32)
     ensures { λ _. ⌜ now (words .exit) ≡ linked (now (words .entry)) parent prev new ⌝ }
 {
     if prev == 0 {
-        store::set_word(words, parent, store::CHILD, new);
+        row::set_word(words, parent, row::CHILD, new);
     } else {
-        store::set_word(words, prev, store::NEXT, new);
+        row::set_word(words, prev, row::NEXT, new);
     }
 }
 

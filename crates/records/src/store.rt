@@ -3,8 +3,8 @@
 ghost use mathlib.Core.Path.{_≡_};
 ghost use Prim.Native.Nat.{_<_};
 ghost use lib.Dec.{leb};
-ghost use Rattle.config.specs.Limits.{recordWidth};
-ghost use Rattle.records.specs.Store.{recordCount, word, withWord};
+ghost use Rattle.row.specs.Row.{recordWidth};
+ghost use Rattle.row.specs.Words.{recordCount, word, withWord};
 ghost use Rattle.records.specs.Records.{valueAt, keyFields, withWords, withValue, withRecord};
 
 // A record's width in words.

@@ -10,14 +10,15 @@ use Rattle.decode.specs.declared.Decoded.the-variants.{Yes, No}
 use Rattle.records.specs.declared.adding.Appended.{Appended}
 use Rattle.records.specs.declared.adding.Appended.the-variants.{Used, TooFew}
 use Rattle.records.specs.declared.store.ValueWords.{ValueWords}
-use Rattle.records.specs.Store.{recordCount}
+use Rattle.row.specs.Words.{recordCount}
 use Rattle.records.specs.Adding.{Change, Leaves, appended}
 use Rattle.records.specs.Nodes.{Nodes, node, plug}
 use Rattle.records.specs.Holds.{Holds}
 use Rattle.records.proofs.Held.{other-text}
 use Rattle.reading.specs.Values.{Value}
 use Rattle.reading.specs.Leaves.{Leaf}
-use Rattle.reading.specs.Refusals.{code, tooFewRecords, tooLittleText}
+use Rattle.refusals.specs.declared.Refusal.the-variants.{TooFewRecords, TooLittleText}
+use Rattle.refusals.specs.Codes.{code}
 use Rattle.reading.specs.Charging.{Lent, Made, over}
 use Rattle.reading.specs.Adding.{leafText, valueAt, appendValue, atPath}
 use Rattle.reading.specs.Shape.{Shaped}
@@ -77,10 +78,10 @@ module _ {lent : Lent} {ws text : List ℕ} {here : Here} {p : List Key} {v : Va
     to {r} g = subst (λ (m : Made Value). After lent ws' text' p r m) (sym rule-is) g
 
     -- Too few records.
-    pub few-left : a ≡ TooFew → Goal (Refused (code tooFewRecords))
+    pub few-left : a ≡ TooFew → Goal (Refused (code TooFewRecords))
     few-left q = to (go agreed)
       where
-        go : {m : Made Value} → Agree text' lent x t c change T m → After lent ws' text' p (Refused (code tooFewRecords)) (over (i .back) m)
+        go : {m : Made Value} → Agree text' lent x t c change T m → After lent ws' text' p (Refused (code TooFewRecords)) (over (i .back) m)
         go (good l b h) = used-or-few (sym b ∙ sym (is .1) ∙ q)
         go (few b) = stopped refl
         go (little l b) = used-or-few (sym b ∙ sym (is .1) ∙ q)
@@ -89,10 +90,10 @@ module _ {lent : Lent} {ws text : List ℕ} {here : Here} {p : List Key} {v : Va
     bytes-lent = ap (λ (l : Lent). l .bytes) (s .lent-is)
 
     -- Too little text.
-    pub little-left : {u : ℕ} → a ≡ Used u → length text < here .bytes + length (leafText x) → Goal (Refused (code tooLittleText))
+    pub little-left : {u : ℕ} → a ≡ Used u → length text < here .bytes + length (leafText x) → Goal (Refused (code TooLittleText))
     little-left q l = to (go agreed)
       where
-        go : {m : Made Value} → Agree text' lent x t c change T m → After lent ws' text' p (Refused (code tooLittleText)) (over (i .back) m)
+        go : {m : Made Value} → Agree text' lent x t c change T m → After lent ws' text' p (Refused (code TooLittleText)) (over (i .back) m)
         go (good g b h) = absurd (omega (arith, s .stores .fill, bytes-lent))
         go (few b) = used-or-few (sym q ∙ is .1 ∙ b)
         go (little g b) = stopped refl
@@ -175,7 +176,7 @@ module _ (ws text : List ℕ) (here : Here) (kind : LeafKind) (value : List ℕ)
         (sym len-is)
         (added s x text' (leafText x ++ replicate (length text' - length (t ++ leafText x)) 0) (split s) (long s) c is z lw (words-are s) (whole s) fits)
 
-    pub append-few : a ≡ TooFew → Promise (Refused (code tooFewRecords))
+    pub append-few : a ≡ TooFew → Promise (Refused (code TooFewRecords))
     append-few z lent p v t s =
         few-left s x text' (leafText x ++ replicate (length text' - length (t ++ leafText x)) 0) (split s) (long s) c is z
 
@@ -187,9 +188,9 @@ module _ (ws text : List ℕ) (here : Here) (kind : LeafKind) (value : List ℕ)
     same : text' ≡ text
     same = et ∙ laid-short text (here .bytes) (leafText x) over-full
 
-    pub unfit-little : {u : ℕ} → a ≡ Used u → Promise (Refused (code tooLittleText))
+    pub unfit-little : {u : ℕ} → a ≡ Used u → Promise (Refused (code TooLittleText))
     unfit-little z lent p v t s =
         little-left s x text' (replicate (length text - length t) 0) (same ∙ s .stores .full) (ap length same) c is z over-full
 
-    pub unfit-few : a ≡ TooFew → Promise (Refused (code tooFewRecords))
+    pub unfit-few : a ≡ TooFew → Promise (Refused (code TooFewRecords))
     unfit-few z lent p v t s = few-left s x text' (replicate (length text - length t) 0) (same ∙ s .stores .full) (ap length same) c is z

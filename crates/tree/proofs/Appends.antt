@@ -13,7 +13,7 @@ use Rattle.records.specs.declared.adding.Appended.the-variants.{Used, TooFew}
 use Rattle.records.specs.declared.siblings.Position.{Position}
 use Rattle.records.specs.declared.siblings.Position.the-variants.{Found, Between}
 use Rattle.records.specs.declared.store.ValueWords.{ValueWords}
-use Rattle.records.specs.Store.{recordCount}
+use Rattle.row.specs.Words.{recordCount}
 use Rattle.records.specs.Records.{withValue, inserted}
 use Rattle.records.specs.Siblings.{position, children, lastOf}
 use Rattle.records.specs.Adding.{Change, ifRoom, unkeyed as elementOf, emptyKeyed, sequenceOfTwo, pushed, paired, appendedHere, childAdded, atPosition, appended}
@@ -28,7 +28,7 @@ use Rattle.records.proofs.Valued.{value-holds}
 use Rattle.records.proofs.Sequences.{behindAll, push-holds, pair-holds}
 use Rattle.reading.specs.Values.{Label, unkeyed, stringKey, Value, uninitialized, null, noValue, string, map, sequence, Forest, none, child}
 use Rattle.reading.specs.Leaves.{Leaf}
-use Rattle.reading.specs.Refusals.{tooFewRecords, tooLittleText}
+use Rattle.refusals.specs.declared.Refusal.the-variants.{TooFewRecords, TooLittleText}
 use Rattle.reading.specs.Charging.{Lent, Made, made, refused, over, charge}
 use Rattle.reading.specs.Adding.{leafText, valueAt, insertNew, snoc, appendValue, appendEmptyKey, atEntry}
 use Rattle.reading.specs.Laid.{Laid, LaidAll}
@@ -39,19 +39,19 @@ use Rattle.tree.proofs.Entries.{over-over, Occupied, Vacant, occupied, 
 pub over-charge : {A B : Type 0} (g : A → B) (L : Lent) (k : ℕ) (x : List ℕ) (a : A) (n : ℕ) (t : List ℕ) → over g (charge L k x a n t) ≡ charge L k x (g a) n t
 over-charge g L k x a n t = go (ltb (L .records) (n + k)) (ltb (L .bytes) (length t + length x))
   where
-    go : (p q : Bool) → over g (cond p (refused tooFewRecords) (cond q (refused tooLittleText) (made a (n + k) (t ++ x))))
-        ≡ cond p (refused tooFewRecords) (cond q (refused tooLittleText) (made (g a) (n + k) (t ++ x)))
+    go : (p q : Bool) → over g (cond p (refused TooFewRecords) (cond q (refused TooLittleText) (made a (n + k) (t ++ x))))
+        ≡ cond p (refused TooFewRecords) (cond q (refused TooLittleText) (made (g a) (n + k) (t ++ x)))
     go true q = refl
     go false true = refl
     go false false = refl
 
 -- A charge by its three ways.
 module _ {A : Type 0} (L : Lent) (k : ℕ) (x : List ℕ) (a : A) (n : ℕ) (t : List ℕ) where
-  pub charge-few : L .records < n + k → charge L k x a n t ≡ refused tooFewRecords
+  pub charge-few : L .records < n + k → charge L k x a n t ≡ refused TooFewRecords
   charge-few h = simp (lt-ltb (L .records) (n + k) h)
 
   module _ (h : n + k ≤ L .records) where
-    pub charge-little : L .bytes < length t + length x → charge L k x a n t ≡ refused tooLittleText
+    pub charge-little : L .bytes < length t + length x → charge L k x a n t ≡ refused TooLittleText
     charge-little g = simp (le-ltb (L .records) (n + k) h, lt-ltb (L .bytes) (length t + length x) g)
 
     pub charge-made : length t + length x ≤ L .bytes → charge L k x a n t ≡ made a (n + k) (t ++ x)
@@ -67,8 +67,8 @@ leaf-below (Leaf.string x) o = refl
 pub data Agree (text : List ℕ) (L : Lent) (x : Leaf) (t : List ℕ) (c : ValueWords) (o : Change) (T : Value → Nodes) : Made Value → Type 0 where
   good : {w : Value} {u : ℕ} → length t + length (leafText x) ≤ L .bytes → o .answer ≡ Used u
       → (valueWords (valueAt x (length t)) ≡ c → Holds (o .words) text u (T w)) → Agree text L x t c o T (made w u (t ++ leafText x))
-  few : o .answer ≡ TooFew → Agree text L x t c o T (refused tooFewRecords)
-  little : {u : ℕ} → L .bytes < length t + length (leafText x) → o .answer ≡ Used u → Agree text L x t c o T (refused tooLittleText)
+  few : o .answer ≡ TooFew → Agree text L x t c o T (refused TooFewRecords)
+  little : {u : ℕ} → L .bytes < length t + length (leafText x) → o .answer ≡ Used u → Agree text L x t c o T (refused TooLittleText)
 
 module _ (ws text : List ℕ) (used : ℕ) (L : Lent) (x : Leaf) (t zs : List ℕ) (c : ValueWords) (records : L .records ≡ recordCount ws) (full : text ≡ t ++ zs) where
   abbrev Agrees : Change → (Value → Nodes) → Made Value → Type 0

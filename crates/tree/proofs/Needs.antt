@@ -10,15 +10,18 @@ use lib.Dec.{eqb}
 use borrow.Author.Tests.{eq-eqb, ne-eqb}
 use Rattle.key.specs.Keys.{Key}
 use Rattle.records.specs.declared.store.ValueWords.{ValueWords}
-use Rattle.records.specs.Words.{kindWord, uninitializedKind, mapKind, sequenceKind, stringKind}
-use Rattle.records.specs.Store.{word}
+use Rattle.row.specs.Row.{kindWord, uninitializedKind, mapKind, sequenceKind, stringKind}
+use Rattle.row.specs.Words.{word}
 use Rattle.records.specs.Records.{withValue}
 use Rattle.records.specs.Adding.{childless}
 use Rattle.records.specs.Nodes.{Nodes, nil, node, plug}
 use Rattle.records.specs.Holds.{Holds}
 use Rattle.records.proofs.Valued.{value-holds, length-withValue}
 use Rattle.reading.specs.Values.{Value, uninitialized, null, noValue, string, map, sequence, Forest, none}
-use Rattle.reading.specs.Refusals.{Refusal, code, sequenceOnMap, sequenceOnSingle, mapOnSequence, mapOnString, mapOnNull}
+use Rattle.refusals.specs.declared.Refusal.{Refusal}
+use Rattle.refusals.specs.declared.Refusal.the-variants.{SequenceOnMap, SequenceOnSingle, MapOnSequence, MapOnString}
+use Rattle.refusals.specs.declared.Refusal.the-variants.{MapOnNull}
+use Rattle.refusals.specs.Codes.{code}
 use Rattle.reading.specs.Charging.{Lent, Made, made, refused, over, Rule}
 use Rattle.reading.specs.Adding.{expectMap, expectSequence, atPath}
 use Rattle.reading.specs.Records.{kind}
@@ -177,10 +180,10 @@ nothing = record { records = 0; bytes = 0 }
 pub map-met : (here : Here) (v : Value) → Met map expectMap mapAnswer here v
 map-met here uninitialized = turns refl (λ u s. refl)
 map-met here (map cs) = serves cs refl (λ e. omega arith) refl (λ u s. refl)
-map-met here (sequence cs) = refuses mapOnSequence refl (λ u s. refl)
-map-met here (string o x) = refuses mapOnString refl (λ u s. refl)
-map-met here null = refuses mapOnNull refl (λ u s. refl)
-map-met here noValue = refuses mapOnNull refl (λ u s. refl)
+map-met here (sequence cs) = refuses MapOnSequence refl (λ u s. refl)
+map-met here (string o x) = refuses MapOnString refl (λ u s. refl)
+map-met here null = refuses MapOnNull refl (λ u s. refl)
+map-met here noValue = refuses MapOnNull refl (λ u s. refl)
 
 abbrev pub mapNeed : Need
 mapNeed =
@@ -199,10 +202,10 @@ mapNeed =
 pub sequence-met : (here : Here) (v : Value) → Met sequence expectSequence sequenceAnswer here v
 sequence-met here uninitialized = turns refl (λ u s. refl)
 sequence-met here (sequence cs) = serves cs refl (λ e. omega arith) refl (λ u s. refl)
-sequence-met here (map cs) = refuses sequenceOnMap refl (λ u s. refl)
-sequence-met here (string o x) = refuses sequenceOnSingle refl (λ u s. refl)
-sequence-met here null = refuses sequenceOnSingle refl (λ u s. refl)
-sequence-met here noValue = refuses sequenceOnSingle refl (λ u s. refl)
+sequence-met here (map cs) = refuses SequenceOnMap refl (λ u s. refl)
+sequence-met here (string o x) = refuses SequenceOnSingle refl (λ u s. refl)
+sequence-met here null = refuses SequenceOnSingle refl (λ u s. refl)
+sequence-met here noValue = refuses SequenceOnSingle refl (λ u s. refl)
 
 abbrev pub sequenceNeed : Need
 sequenceNeed =
@@ -249,9 +252,9 @@ module _ (ws : List ℕ) (here : Here) {kd : ℕ} (e : kd ≡ word ws (here .nod
   is-not {k} q = ne-eqb (word ws (here .node) kindWord) k (λ z. q (e ∙ z))
 
   pub null-map : kd ≢ uninitializedKind → kd ≢ mapKind → kd ≢ sequenceKind → kd ≢ stringKind
-      → Refused (code mapOnNull) ≡ mapAnswer here (word ws (here .node) kindWord)
+      → Refused (code MapOnNull) ≡ mapAnswer here (word ws (here .node) kindWord)
   null-map a b c d = rw (is-not a, is-not b, is-not c, is-not d)
 
   pub single-sequence : kd ≢ uninitializedKind → kd ≢ sequenceKind → kd ≢ mapKind
-      → Refused (code sequenceOnSingle) ≡ sequenceAnswer here (word ws (here .node) kindWord)
+      → Refused (code SequenceOnSingle) ≡ sequenceAnswer here (word ws (here .node) kindWord)
   single-sequence a b c = rw (is-not a, is-not b, is-not c)

@@ -4,10 +4,10 @@ use mathlib.Core.List.{List, []}
 use Prim.Native.Nat.{ℕ, _/_, _<_, _≤_}
 use native.Mathlib.Omega.{arith}
 use lib.ListN.{length}
-use Rattle.config.specs.Limits.{recordWidth}
+use Rattle.row.specs.Row.{recordWidth}
 use Rattle.key.specs.Keys.{Key}
-use Rattle.records.specs.Words.{kindWord}
-use Rattle.records.specs.Store.{recordCount, word}
+use Rattle.row.specs.Row.{kindWord}
+use Rattle.row.specs.Words.{recordCount, word}
 use Rattle.records.specs.Siblings.{WellFormed}
 use Rattle.records.specs.Nodes.{Nodes, node, plug}
 use Rattle.records.specs.Holds.{Holds}

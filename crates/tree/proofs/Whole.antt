@@ -9,10 +9,10 @@ use lib.ListN.{length, getD, replicate, length-append, length-replicate, List·g
 use lib.Seq.{ext-getD, getD-append-add}
 use lib.Dec.{eqb}
 use borrow.Author.Tests.{eq-eqb, ne-eqb}
-use Rattle.config.specs.Limits.{recordWidth}
+use Rattle.row.specs.Row.{recordWidth}
 use Rattle.laws.proofs.Lists.{zeros}
-use Rattle.records.specs.Words.{noValueKind}
-use Rattle.records.specs.Store.{word}
+use Rattle.row.specs.Row.{noValueKind}
+use Rattle.row.specs.Words.{word}
 use Rattle.records.specs.Records.{withValue}
 use Rattle.records.specs.Adding.{childless}
 use Rattle.records.specs.Nodes.{nil, first as firstNode, indicator, count, here}

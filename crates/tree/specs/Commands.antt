@@ -5,7 +5,8 @@ use Prim.Native.Nat.{ℕ, _+_, _≤_, _<_, _^_}
 use Rattle.key.specs.Keys.{Key}
 use Rattle.reading.specs.Values.{Value}
 use Rattle.reading.specs.Leaves.{Leaf}
-use Rattle.reading.specs.Refusals.{Refusal, code}
+use Rattle.refusals.specs.declared.Refusal.{Refusal}
+use Rattle.refusals.specs.Codes.{code}
 use Rattle.reading.specs.Charging.{Lent, Rule, Made, made, refused}
 use Rattle.reading.specs.Adding.{appendValue, atPath}
 use Rattle.reading.specs.Scanning.{under, last, enter, needMap, needSequence, add}

@@ -8,12 +8,13 @@ use lib.ListN.{length}
 use Rattle.records.specs.declared.keys.RawKey.{RawKey}
 use Rattle.records.specs.declared.keys.RawKey.the-variants.{Int, String}
 use Rattle.records.specs.declared.store.KeyWords.{KeyWords}
-use Rattle.records.specs.Words.{uninitializedKind, intKeyKind, stringKeyKind}
-use Rattle.records.specs.Store.{recordCount}
+use Rattle.row.specs.Row.{uninitializedKind, intKeyKind, stringKeyKind}
+use Rattle.row.specs.Words.{recordCount}
 use Rattle.records.specs.Records.{inserted}
 use Rattle.records.specs.Keys.{meantKey}
 use Rattle.records.specs.Adding.{childless}
-use Rattle.reading.specs.Refusals.{code, tooFewRecords, tooLittleText}
+use Rattle.refusals.specs.declared.Refusal.the-variants.{TooFewRecords, TooLittleText}
+use Rattle.refusals.specs.Codes.{code}
 use Rattle.reading.specs.Adding.{keyText}
 use Rattle.tree.specs.declared.Here.{Here}
 use Rattle.tree.specs.declared.Performed.{Performed}
@@ -28,9 +29,9 @@ newKeyWords String offset len = record { kind = stringKeyKind; offset = cond (eq
 -- What entering a new key leaves and answers, by its three ways: too few records, too little text, or a child, Uninitialized, put between prev
 -- and next, with the key's text laid. "of 14 and 15 together, 14"
 pub data Entered (ws text : List ℕ) (here : Here) (prev next : ℕ) (key : RawKey) (raw ws' text' : List ℕ) : Performed → Type 0 where
-  few : recordCount ws < here .records + 1 → Entered ws text here prev next key raw ws' text' (Refused (code tooFewRecords))
+  few : recordCount ws < here .records + 1 → Entered ws text here prev next key raw ws' text' (Refused (code TooFewRecords))
   little : here .records + 1 ≤ recordCount ws → length text < here .bytes + length (keyText (meantKey key raw))
-      → Entered ws text here prev next key raw ws' text' (Refused (code tooLittleText))
+      → Entered ws text here prev next key raw ws' text' (Refused (code TooLittleText))
   entered : here .records + 1 ≤ recordCount ws → here .bytes + length (keyText (meantKey key raw)) ≤ length text
       → ws' ≡ inserted ws (here .records) (here .node) prev next
       (record { key = newKeyWords key (here .bytes) (length (keyText (meantKey key raw))); value = childless uninitializedKind })

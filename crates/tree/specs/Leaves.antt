@@ -3,7 +3,7 @@ use mathlib.Core.List.{List}
 use Prim.Native.Nat.{ℕ}
 use Rattle.decode.specs.Decoding.{decoded}
 use Rattle.records.specs.declared.store.ValueWords.{ValueWords}
-use Rattle.records.specs.Words.{stringKind, nullKind, noValueKind}
+use Rattle.row.specs.Row.{stringKind, nullKind, noValueKind}
 use Rattle.records.specs.Adding.{childless}
 use Rattle.reading.specs.Leaves.{Leaf}
 use Rattle.tree.specs.declared.adding.LeafKind.{LeafKind}

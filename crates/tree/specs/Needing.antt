@@ -3,11 +3,13 @@ use mathlib.Core.Bool.{cond}
 use mathlib.Core.List.{List}
 use Prim.Native.Nat.{ℕ}
 use lib.Dec.{eqb}
-use Rattle.records.specs.Words.{kindWord, uninitializedKind, mapKind, sequenceKind, stringKind}
-use Rattle.records.specs.Store.{word}
+use Rattle.row.specs.Row.{kindWord, uninitializedKind, mapKind, sequenceKind, stringKind}
+use Rattle.row.specs.Words.{word}
 use Rattle.records.specs.Records.{withValue}
 use Rattle.records.specs.Adding.{childless}
-use Rattle.reading.specs.Refusals.{code, sequenceOnMap, sequenceOnSingle, mapOnSequence, mapOnString, mapOnNull}
+use Rattle.refusals.specs.declared.Refusal.the-variants.{SequenceOnMap, SequenceOnSingle, MapOnSequence, MapOnString}
+use Rattle.refusals.specs.declared.Refusal.the-variants.{MapOnNull}
+use Rattle.refusals.specs.Codes.{code}
 use Rattle.tree.specs.declared.Here.{Here}
 use Rattle.tree.specs.declared.Performed.{Performed}
 use Rattle.tree.specs.declared.Performed.the-variants.{Made, Refused}
@@ -17,15 +19,15 @@ abbrev pub mapAnswer : Here → ℕ → Performed
 mapAnswer here kind =
     cond (eqb kind uninitializedKind) (Made here)
     (cond (eqb kind mapKind) (Made here)
-    (cond (eqb kind sequenceKind) (Refused (code mapOnSequence))
-    (cond (eqb kind stringKind) (Refused (code mapOnString)) (Refused (code mapOnNull)))))
+    (cond (eqb kind sequenceKind) (Refused (code MapOnSequence))
+    (cond (eqb kind stringKind) (Refused (code MapOnString)) (Refused (code MapOnNull)))))
 
 -- "Uninitialized becomes Sequence, a Sequence serves, the rest refuse (6, 7)"
 abbrev pub sequenceAnswer : Here → ℕ → Performed
 sequenceAnswer here kind =
     cond (eqb kind uninitializedKind) (Made here)
     (cond (eqb kind sequenceKind) (Made here)
-    (cond (eqb kind mapKind) (Refused (code sequenceOnMap)) (Refused (code sequenceOnSingle))))
+    (cond (eqb kind mapKind) (Refused (code SequenceOnMap)) (Refused (code SequenceOnSingle))))
 
 -- The words after it: an Uninitialized record n is of the kind that is needed.
 abbrev pub becomes : List ℕ → ℕ → ℕ → List ℕ

@@ -32,17 +32,17 @@ fn value_words(kind: LeafKind, offset: u32, len: u32) -> ValueWords
 {
     match kind {
         LeafKind::Null => ValueWords {
-            kind: store::NULL,
+            kind: row::NULL,
             offset: 0,
             len: 0,
         },
         LeafKind::NoValue => ValueWords {
-            kind: store::NO_VALUE,
+            kind: row::NO_VALUE,
             offset: 0,
             len: 0,
         },
         LeafKind::String => ValueWords {
-            kind: store::STRING,
+            kind: row::STRING,
             offset,
             len,
         },

@@ -2,7 +2,7 @@
 ghost use mathlib.Core.Path.{_≡_};
 ghost use Prim.Native.Nat.{_≤_, _<_};
 ghost use lib.ListN.{length};
-ghost use Rattle.records.specs.Store.{recordCount};
+ghost use Rattle.row.specs.Words.{recordCount};
 ghost use Rattle.records.specs.Keys.{meantKey};
 ghost use Rattle.tree.specs.Entering.{newKeyWords, Entered};
 ghost use Rattle.tree.specs.Stored.{Standing};
@@ -27,20 +27,20 @@ fn key_words(key: RawKey, offset: u32, len: u32) -> KeyWords
 {
     match key {
         RawKey::Int(int) => KeyWords {
-            kind: store::INT_KEY,
+            kind: row::INT_KEY,
             offset: int,
             len: 0,
         },
         RawKey::String => {
             if len == 0 {
                 return KeyWords {
-                    kind: store::STRING_KEY,
+                    kind: row::STRING_KEY,
                     offset: 0,
                     len: 0,
                 };
             }
             KeyWords {
-                kind: store::STRING_KEY,
+                kind: row::STRING_KEY,
                 offset,
                 len,
             }
@@ -63,13 +63,13 @@ fn enter_new(
         × Countable here 2 (length (now raw)) ⌝ }
     ensures { λ r. ⌜ Entered (now (words .entry)) (now (text .entry)) here prev next key (now (raw .entry)) (now (words .exit)) (now (text .exit)) r ⌝ }
 {
-    if store::has_room(words, here.records + 1) {
+    if row::has_room(words, here.records + 1) {
         match laying::lay_key(key, raw, text, here.bytes as usize) {
             Decoded::Yes(len) => {
                 let new = Record {
                     key: key_words(key, here.bytes, len as u32),
                     value: ValueWords {
-                        kind: store::UNINITIALIZED,
+                        kind: row::UNINITIALIZED,
                         offset: 0,
                         len: 0,
                     },

@@ -2,8 +2,8 @@
 ghost use mathlib.Core.Path.{_≡_};
 ghost use mathlib.Core.List.{List};
 ghost use Prim.Native.Nat.{ℕ, _<_};
-ghost use Rattle.records.specs.Words.{kindWord, mapKind, sequenceKind};
-ghost use Rattle.records.specs.Store.{recordCount, word};
+ghost use Rattle.row.specs.Row.{kindWord, mapKind, sequenceKind};
+ghost use Rattle.row.specs.Words.{recordCount, word};
 ghost use Rattle.tree.specs.Needing.{mapAnswer, sequenceAnswer, becomes};
 ghost use Rattle.tree.specs.Commands.{Does, needsMap, needsSequence, stays};
 use crate::Here;
@@ -19,23 +19,23 @@ pub fn expect_map(words: &mut [u32], here: Here) -> Performed
         × (now (words .exit) ≡ becomes (now (words .entry)) (here .node) mapKind) ⌝ }
     ensures does { λ r. ⌜ ((text : List ℕ) → Does (now (words .entry)) text (now (words .exit)) text here needsMap stays r) ⌝ }
 {
-    let kind = store::get_word(words, here.node, store::KIND);
-    if kind == store::UNINITIALIZED {
+    let kind = row::get_word(words, here.node, row::KIND);
+    if kind == row::UNINITIALIZED {
         let map = ValueWords {
-            kind: store::MAP,
+            kind: row::MAP,
             offset: 0,
             len: 0,
         };
         store::set_value(words, here.node, map);
         return Performed::Made(here);
     }
-    if kind == store::MAP {
+    if kind == row::MAP {
         return Performed::Made(here);
     }
-    if kind == store::SEQUENCE {
+    if kind == row::SEQUENCE {
         return Performed::Refused(refusals::MAP_ON_SEQUENCE);
     }
-    if kind == store::STRING {
+    if kind == row::STRING {
         return Performed::Refused(refusals::MAP_ON_STRING);
     }
     Performed::Refused(refusals::MAP_ON_NULL)
@@ -48,20 +48,20 @@ pub fn expect_sequence(words: &mut [u32], here: Here) -> Performed
         × (now (words .exit) ≡ becomes (now (words .entry)) (here .node) sequenceKind) ⌝ }
     ensures does { λ r. ⌜ ((text : List ℕ) → Does (now (words .entry)) text (now (words .exit)) text here needsSequence stays r) ⌝ }
 {
-    let kind = store::get_word(words, here.node, store::KIND);
-    if kind == store::UNINITIALIZED {
+    let kind = row::get_word(words, here.node, row::KIND);
+    if kind == row::UNINITIALIZED {
         let sequence = ValueWords {
-            kind: store::SEQUENCE,
+            kind: row::SEQUENCE,
             offset: 0,
             len: 0,
         };
         store::set_value(words, here.node, sequence);
         return Performed::Made(here);
     }
-    if kind == store::SEQUENCE {
+    if kind == row::SEQUENCE {
         return Performed::Made(here);
     }
-    if kind == store::MAP {
+    if kind == row::MAP {
         return Performed::Refused(refusals::SEQUENCE_ON_MAP);
     }
     Performed::Refused(refusals::SEQUENCE_ON_SINGLE)

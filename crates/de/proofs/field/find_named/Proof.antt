@@ -3,7 +3,7 @@ use lib.ListN.{length}
 use borrow.Author.Needs.{needs}
 use Rattle.records.proofs.Chains.{is-record, chain-falls}
 use Rattle.records.specs.Siblings.{chain, children}
-use Rattle.records.specs.Store.{recordCount}
+use Rattle.row.specs.Words.{recordCount}
 use Rattle.de.specs.OnRecords.{namedAt}
 use Rattle.de.proofs.Fields.{named-here, named-later, named-nowhere}
 use Rattle.de.proofs.Siblings.{Along, along-start}

@@ -3,7 +3,7 @@ use lib.ListN.{length}
 use borrow.Author.Needs.{needs}
 use Rattle.records.proofs.Chains.{is-record, chain-falls}
 use Rattle.records.specs.Siblings.{chain, children}
-use Rattle.records.specs.Store.{recordCount}
+use Rattle.row.specs.Words.{recordCount}
 use Rattle.de.proofs.Lists.{Counting, counted, counting-start, counting-more, counting-done}
 use Rattle.de.proofs.Lists.{Counting, counting-start, counting-more, counting-done}
 use Rattle.de.proofs.list.count_children.Statement.{statement}

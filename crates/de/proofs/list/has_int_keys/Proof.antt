@@ -3,7 +3,7 @@ use lib.ListN.{length}
 use borrow.Author.Needs.{needs}
 use Rattle.records.proofs.Chains.{is-record, chain-falls}
 use Rattle.records.specs.Siblings.{chain, children}
-use Rattle.records.specs.Store.{recordCount}
+use Rattle.row.specs.Words.{recordCount}
 use Rattle.de.specs.OnRecords.{intKeysAt}
 use Rattle.de.proofs.Lists.{int-here, no-int-here, all-int}
 use Rattle.de.proofs.Siblings.{Along, along-start}

@@ -4,7 +4,7 @@ use lib.ListN.{length}
 use borrow.Author.Needs.{needs}
 use Rattle.records.proofs.Chains.{is-record, chain-falls}
 use Rattle.records.specs.Siblings.{chain, children}
-use Rattle.records.specs.Store.{recordCount}
+use Rattle.row.specs.Words.{recordCount}
 use Rattle.de.specs.OnRecords.{inTurnAt}
 use Rattle.de.proofs.Lists.{Turning, turning-start, turning-long, next-fits, element-fits, turning-more, turning-stopped, turning-done}
 use Rattle.de.proofs.list.read_in_turn.Statement.{statement}

@@ -1,6 +1,6 @@
 use native.Mathlib.Omega.{arith}
 use mathlib.Core.Path.{refl, ap}
-use Rattle.reading.specs.Buffers.{word}
+use Rattle.row.specs.Words.{word}
 use Rattle.listing.specs.Lines.{line, ownLines}
 use Rattle.listing.proofs.ByKind.{name-of-kind}
 use Rattle.listing.proofs.Pages.{puts-then, puts-same}

@@ -1,6 +1,6 @@
 use native.Mathlib.Omega.{arith}
 use Rattle.listing.proofs.Items.{string-text}
-use Rattle.reading.specs.Buffers.{word}
+use Rattle.row.specs.Words.{word}
 use Rattle.listing.proofs.Pages.{puts-same}
 use Rattle.listing.proofs.ByKind.{text-of-other}
 use mathlib.Core.Path.{_∙_}

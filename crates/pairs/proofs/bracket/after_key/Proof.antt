@@ -1,7 +1,7 @@
 use mathlib.Core.Path.{refl}
 use mathlib.Core.List.{[], _∷_, _++_}
 use Rattle.reading.specs.Leaves.{noValue}
-use Rattle.reading.specs.Refusals.{byteAfterKey}
+use Rattle.refusals.specs.declared.Refusal.the-variants.{ByteAfterKey}
 use Rattle.reading.specs.Scanning.{under, add, afterKey}
 use Rattle.cursor.specs.Collected.{decodedKey}
 use Rattle.pairs.proofs.Moves.{moved, as-level, next-move}
@@ -133,7 +133,7 @@ returns-4 c =
     let start = at-clear-acc .before .before .before .before .before .before in
     next-levels (at-take .take .ensures) (at-clear-acc .clear-acc .ensures .0) (c .enum-told4 .given .1)
     (λ path. afterKey path (start .args .nested .level) (decodedKey (start .args .input .now) (start .args .key)))
-    (as-level (refuse-turns byteAfterKey))
+    (as-level (refuse-turns ByteAfterKey))
 
 returns-5 : tie.Need-returns-5
 returns-5 c =
@@ -142,7 +142,7 @@ returns-5 c =
     let start = at-clear-acc .before .before .before .before .before .before in
     next-levels (at-take .take .ensures) (at-clear-acc .clear-acc .ensures .0) (c .enum-told5 .given .1)
     (λ path. afterKey path (start .args .nested .level) (decodedKey (start .args .input .now) (start .args .key)))
-    (as-level (refuse-turns byteAfterKey))
+    (as-level (refuse-turns ByteAfterKey))
 
 same-length-7 : tie.Need-same-length-7
 same-length-7 c = search needs

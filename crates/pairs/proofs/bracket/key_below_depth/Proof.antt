@@ -1,5 +1,5 @@
 use native.Mathlib.Omega.{arith}
-use Rattle.reading.specs.Refusals.{endBeforeClosing}
+use Rattle.refusals.specs.declared.Refusal.the-variants.{EndBeforeClosing}
 use Rattle.cursor.proofs.Scans.{scan-bounds}
 use Rattle.pairs.proofs.Moves.{moved, levels-on, as-level}
 use Rattle.pairs.proofs.Performing.{refuse-turns}
@@ -21,7 +21,7 @@ returns c =
     let at-take-until = c .before .before .before in
     let start = at-take-until .before .before .before .before .before in
     levels-on (below-ended (omega (arith, start .pre .1 .0)) (at-take-until .take-until .ensures) (c .before .is .ensures) (c .if1 .taken)
-    (start .args .nested .level)) (omega arith) (as-level (refuse-turns endBeforeClosing {low = start .args .nested .cursor .place}))
+    (start .args .nested .level)) (omega arith) (as-level (refuse-turns EndBeforeClosing {low = start .args .nested .cursor .place}))
 
 expect-key-requires : tie.Need-expect-key-requires
 expect-key-requires c κs =

@@ -1,7 +1,7 @@
 use mathlib.Core.Path.{refl}
 use Prim.Native.Nat.{_+_}
 use native.Mathlib.Omega.{arith}
-use Rattle.reading.specs.Refusals.{endAfterOpening}
+use Rattle.refusals.specs.declared.Refusal.the-variants.{EndAfterOpening}
 use Rattle.cursor.specs.declared.taking.Symbol.the-variants.{Closing, End}
 use Rattle.pairs.proofs.Moves.{moved, levels-on, as-level}
 use Rattle.pairs.proofs.Performing.{refuse-turns}
@@ -26,7 +26,7 @@ returns c =
     let at-take = c .before .before .before in
     let start = at-take .before .before .before .before .before .before .before in
     levels-on (level-symbol (start .args .nested) (at-take .take .ensures) refl End (c .before .is .ensures) (c .if1 .taken)) (omega arith)
-    (as-level (refuse-turns endAfterOpening {low = start .args .nested .cursor .place + 1}))
+    (as-level (refuse-turns EndAfterOpening {low = start .args .nested .cursor .place + 1}))
 
 is-requires-2 : tie.Need-is-requires-2
 is-requires-2 c κs = search needs

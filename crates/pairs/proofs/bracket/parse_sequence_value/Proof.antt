@@ -1,6 +1,6 @@
 use mathlib.Core.Path.{refl}
 use Rattle.reading.specs.Leaves.{noValue}
-use Rattle.reading.specs.Refusals.{openingAfterBrackets, byteAfterBrackets}
+use Rattle.refusals.specs.declared.Refusal.the-variants.{OpeningAfterBrackets, ByteAfterBrackets}
 use Rattle.reading.specs.Scanning.{last, add, afterBrackets}
 use Rattle.pairs.proofs.Moves.{moved, next-move}
 use Rattle.pairs.proofs.Performing.{able, performed-turns, refuse-turns}
@@ -96,21 +96,21 @@ returns-3 c =
     let at-take = c .before .before .before in
     let at-clear-acc = at-take .before in
     next-turns (at-take .take .ensures) (at-clear-acc .clear-acc .ensures .0) (c .enum-told3 .given .1) (λ path. afterBrackets path)
-    (refuse-turns openingAfterBrackets)
+    (refuse-turns OpeningAfterBrackets)
 
 returns-4 : tie.Need-returns-4
 returns-4 c =
     let at-take = c .before .before .before in
     let at-clear-acc = at-take .before in
     next-turns (at-take .take .ensures) (at-clear-acc .clear-acc .ensures .0) (c .enum-told4 .given .1) (λ path. afterBrackets path)
-    (refuse-turns byteAfterBrackets)
+    (refuse-turns ByteAfterBrackets)
 
 returns-5 : tie.Need-returns-5
 returns-5 c =
     let at-take = c .before .before .before in
     let at-clear-acc = at-take .before in
     next-turns (at-take .take .ensures) (at-clear-acc .clear-acc .ensures .0) (c .enum-told5 .given .1) (λ path. afterBrackets path)
-    (refuse-turns byteAfterBrackets)
+    (refuse-turns ByteAfterBrackets)
 
 same-length-5 : tie.Need-same-length-5
 same-length-5 c = search needs

@@ -4,7 +4,7 @@ use native.Mathlib.Omega.{arith}
 use borrow.Author.Needs.{needs}
 use borrow.Fn.Kinds.{In}
 use borrow.Fn.PlainCycle.{Measures, is, falls, and}
-use Rattle.records.specs.Store.{recordCount}
+use Rattle.row.specs.Words.{recordCount}
 use Rattle.records.proofs.Added.{at-other, found-inside, prev-inside, at-child, at-new-child}
 use Rattle.records.proofs.adding.append.Reads as append
 use Rattle.records.proofs.adding.append.Kinds as append-kinds

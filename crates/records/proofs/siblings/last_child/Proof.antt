@@ -1,7 +1,7 @@
 use native.Mathlib.Omega.{arith}
 use borrow.Author.Needs.{needs}
 use lib.ListN.{length}
-use Rattle.records.specs.Store.{recordCount}
+use Rattle.row.specs.Words.{recordCount}
 use Rattle.records.specs.Siblings.{chain}
 use Rattle.records.proofs.Chains.{Passing, passing-start, passing-on, passing-end, is-record, chain-falls}
 use Rattle.records.proofs.siblings.last_child.Statement.{statement}

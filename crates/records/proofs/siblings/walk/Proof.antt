@@ -2,7 +2,7 @@ use mathlib.Core.Path.{refl}
 use native.Mathlib.Omega.{arith}
 use borrow.Author.Needs.{needs}
 use lib.ListN.{length}
-use Rattle.records.specs.Store.{recordCount}
+use Rattle.row.specs.Words.{recordCount}
 use Rattle.records.specs.Keys.{meantKey}
 use Rattle.records.specs.Siblings.{chain, standing}
 use Rattle.records.proofs.Chains.{Walking, walking-on, walking-found, walking-past, walking-end, is-record, chain-falls}

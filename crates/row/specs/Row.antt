@@ -1,6 +1,9 @@
--- Document 01, 'Settings and the lent buffers': the words of a record by their numbers, and the numbers that stand for kinds.
--- The code has them as constants of module store.
+-- Document 01, 'Settings and the lent buffers': a record's row, each number of it named once. The code has the same names as constants.
 use Prim.Native.Nat.{ℕ}
+
+-- "A record is 8 words"
+abbrev pub recordWidth : ℕ
+recordWidth = 8
 
 -- "0 kind"
 abbrev pub kindWord : ℕ

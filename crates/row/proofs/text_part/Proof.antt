@@ -1,7 +1,7 @@
 use native.Mathlib.Omega.{arith}
-use Rattle.listing.proofs.Parts.{part-past, part-cut, part-whole}
-use Rattle.listing.proofs.record.text_part.Statement.{statement}
-use Rattle.listing.proofs.record.text_part.Tie as tie
+use Rattle.row.proofs.Parts.{part-past, part-cut, part-whole}
+use Rattle.row.proofs.text_part.Statement.{statement}
+use Rattle.row.proofs.text_part.Tie as tie
 
 sub-result : tie.Need-sub-result
 sub-result c = omega arith

@@ -6,8 +6,8 @@ use Prim.Native.Nat.{ℕ, _+_, _*_, _<_}
 use native.Mathlib.Omega.{arith}
 use lib.ListN.{length, length-set}
 use lib.Seq.{getD-set-same, getD-set-other}
-use Rattle.config.specs.Limits.{recordWidth}
-use Rattle.records.specs.Store.{recordCount, word, withWord}
+use Rattle.row.specs.Row.{recordWidth}
+use Rattle.row.specs.Words.{recordCount, word, withWord}
 
 pub length-withWord : (ws : List ℕ) (n w x : ℕ) → length (withWord ws n w x) ≡ length ws
 unfolding withWord

@@ -1,8 +1,8 @@
 use mathlib.Core.Path.{refl}
 use borrow.Author.Needs.{needs}
-use Rattle.records.specs.Store.{word}
-use Rattle.records.proofs.store.get_word.Statement.{statement}
-use Rattle.records.proofs.store.get_word.Tie as tie
+use Rattle.row.specs.Words.{word}
+use Rattle.row.proofs.get_word.Statement.{statement}
+use Rattle.row.proofs.get_word.Tie as tie
 
 mul-result : tie.Need-mul-result
 mul-result c = search needs

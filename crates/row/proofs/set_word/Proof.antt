@@ -1,8 +1,8 @@
 use mathlib.Core.Path.{refl}
 use borrow.Author.Needs.{needs}
-use Rattle.records.specs.Store.{withWord}
-use Rattle.records.proofs.store.set_word.Statement.{statement}
-use Rattle.records.proofs.store.set_word.Tie as tie
+use Rattle.row.specs.Words.{withWord}
+use Rattle.row.proofs.set_word.Statement.{statement}
+use Rattle.row.proofs.set_word.Tie as tie
 
 mul-words : tie.Need-mul-words
 mul-words c = search needs

@@ -5,10 +5,11 @@ use Prim.Native.Nat.{ℕ, _+_, _*_, _-_, _≤_}
 use native.Mathlib.Omega.{arith}
 use lib.ListN.{length, take, drop, length-drop, drop-of-length-le, List·getD-eq-default}
 use lib.Seq.{take-nil, take-all}
-use Rattle.config.specs.Limits.{recordWidth}
-use Rattle.reading.specs.Buffers.{word, textPart}
+use Rattle.row.specs.Row.{recordWidth}
+use Rattle.row.specs.Words.{word, textPart}
 
 pub word-past : (words : List ℕ) (n w : ℕ) → length words ≤ n * recordWidth + w → 0 ≡ word words n w
+unfolding word
 word-past words n w h = sym (List·getD-eq-default words 0 h)
 
 module _ (text : List ℕ) (offset len : ℕ) where
