@@ -139,7 +139,7 @@ not-kept {v} {w} e (rootKept k) = true-false (sym (sym e ∙ rw (kept k) (or-rig
 
 -- The test of two inputs, and of all.
 abbrev testOf : String → String → Bool
-testOf w v = cond (eqb ((readOf w) .number) 0) (cond (eqb ((readOf v) .number) 0) (not (mayKeepTree (treeOf v) (treeOf w))) false) false
+testOf w v = cond (eqb ((readOf w) .answer .number) 0) (cond (eqb ((readOf v) .answer .number) 0) (not (mayKeepTree (treeOf v) (treeOf w))) false) false
 
 abbrev testsPass : List (String × String) → Bool
 testsPass [] = true
@@ -153,11 +153,11 @@ each-lost : (inputs : List (String × String)) → testsPass inputs ≡ true →
 each-lost [] e = tt
 each-lost ((w, v) ∷ more) e =
     let first = both (testOf w v) (testsPass more) e in
-    let read = both (eqb ((readOf w) .number) 0) (cond (eqb ((readOf v) .number) 0) (not (mayKeepTree (treeOf v) (treeOf w))) false) (first .0) in
-    let too = both (eqb ((readOf v) .number) 0) (not (mayKeepTree (treeOf v) (treeOf w))) (read .1) in (
+    let read = both (eqb ((readOf w) .answer .number) 0) (cond (eqb ((readOf v) .answer .number) 0) (not (mayKeepTree (treeOf v) (treeOf w))) false) (first .0) in
+    let too = both (eqb ((readOf v) .answer .number) 0) (not (mayKeepTree (treeOf v) (treeOf w))) (read .1) in (
       record {
-        accepted = eqb-true ((readOf w) .number) 0 (read .0);
-        acceptedToo = eqb-true ((readOf v) .number) 0 (too .0);
+        accepted = eqb-true ((readOf w) .answer .number) 0 (read .0);
+        acceptedToo = eqb-true ((readOf v) .answer .number) 0 (too .0);
         notKept = not-kept (fails (mayKeepTree (treeOf v) (treeOf w)) (too .1));
       },
       each-lost more (first .1),

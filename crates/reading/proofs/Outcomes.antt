@@ -179,14 +179,14 @@ answers config input words text =
 -- What is proved of the tree of an accepted reading and of its outcome.
 pub of-accepted : (Q : Outcome → Value → ℕ → List ℕ → Type 0) (config : Config) (input words text : List ℕ)
     → ((v : Value) (n : ℕ) (t : List ℕ) → Sound (lentBy words text) v n t → Q (outcome (length words) (length text) (accepted v n t)) v n t)
-    → (reading config input words text) .number ≡ 0 → Accepts (Q (reading config input words text)) (parsed config input (lentBy words text))
+    → (reading config input words text) .answer .number ≡ 0 → Accepts (Q (reading config input words text)) (parsed config input (lentBy words text))
 of-accepted Q config input words text f =
-    reading-cases (λ o. o .number ≡ 0 → Accepts (Q o) (parsed config input (lentBy words text))) config input words text
+    reading-cases (λ o. o .answer .number ≡ 0 → Accepts (Q o) (parsed config input (lentBy words text))) config input words text
     (λ e. absurd (omega arith)) (λ e. absurd (omega arith)) (λ h e. absurd (omega arith))
     (λ h. go (parsed-sound config input (lentBy words text) (whole-records words text h)))
   where
     go : {a : Answer} → Ends (Sound (lentBy words text)) (λ x p. Numbered x) a
-        → (outcome (length words) (length text) a) .number ≡ 0 → Accepts (Q (outcome (length words) (length text) a)) a
+        → (outcome (length words) (length text) a) .answer .number ≡ 0 → Accepts (Q (outcome (length words) (length text) a)) a
     go (Ends.accepts {v = v} {n = n} {t = t} s) e = accepts (f v n t s)
     go (refusesAt {x = x} h) e = absurd (code-some x e)
 

@@ -37,7 +37,7 @@ parsed-placed config (b ∷ s) lent =
     (λ p m v n t e. anyway (perform lent (finish config m) v n t) tt (omega arith)) (tokens config (b ∷ s)) 0 (rootKey []) uninitialized 1 []
     (tokens-end config (b ∷ s) 0 ∙ omega arith)
 
-outcome-placed : (words bytes n : ℕ) {a : Answer} → Ends (λ v m t. Unit) (λ x p. p ≤ n) a → (outcome words bytes a) .place ≤ n
+outcome-placed : (words bytes n : ℕ) {a : Answer} → Ends (λ v m t. Unit) (λ x p. p ≤ n) a → (outcome words bytes a) .answer .place ≤ n
 outcome-placed words bytes n (accepts u) = omega arith
 outcome-placed words bytes n (refusesAt h) = h
 
@@ -48,7 +48,7 @@ placed config input words text =
     (λ e. by-test In (ltb maxLen (length input)) (λ f. unmoved) (λ f. by-test In (ltb (length words) recordWidth) (λ g. unmoved) (λ g. moved f)))
   where
     In : Outcome → Type 0
-    In o = InPlace input (o .place)
+    In o = InPlace input (o .answer .place)
 
     unmoved : InPlace input 0
     unmoved = record { inside = omega arith; bounded = omega arith }

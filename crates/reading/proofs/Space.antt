@@ -310,13 +310,13 @@ parsed-fine config (b ∷ s) lent h k =
 not-for-space : (x : Refusal) → Fine x → NotForSpace (code x)
 not-for-space x h = record { first = λ e. absurd (rw e at h); records = λ e. absurd (rw e at h); text = λ e. absurd (rw e at h) }
 
-outcome-fine : (words bytes : ℕ) {a : Answer} → Ends (λ w i u. Unit) (λ x q. Fine x) a → NotForSpace ((outcome words bytes a) .number)
+outcome-fine : (words bytes : ℕ) {a : Answer} → Ends (λ w i u. Unit) (λ x q. Fine x) a → NotForSpace ((outcome words bytes a) .answer .number)
 outcome-fine words bytes (accepts h) = record { first = λ e. omega arith; records = λ e. omega arith; text = λ e. omega arith }
 outcome-fine words bytes (refusesAt {x = x} h) = not-for-space x h
 
 -- Where n + 1 records are lent there is at least one, so that 3 isn't met either.
 pub space : Space
 space config input words text h =
-    reading-cases (λ o. NotForSpace (o .number)) config input words text (not-for-space TooDeep tt) (not-for-space TooLong tt)
+    reading-cases (λ o. NotForSpace (o .answer .number)) config input words text (not-for-space TooDeep tt) (not-for-space TooLong tt)
     (λ few. absurd (omega (arith, h .records)))
     (λ e. outcome-fine (length words) (length text) (parsed-fine config input (lentBy words text) (h .records) (h .text)))

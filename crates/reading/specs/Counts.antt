@@ -51,10 +51,10 @@ abbrev mutual
   elementBytes (element value xs) = textBytes value + elementBytes xs
 
 pub record Counted (o : Outcome) : Type 0 where
-  pub records : o .records ≡ values (treeIn (o .words) (o .text))
-  pub bytes : o .bytes ≡ textBytes (treeIn (o .words) (o .text))
+  pub records : o .answer .records ≡ values (treeIn (o .words) (o .text))
+  pub bytes : o .answer .bytes ≡ textBytes (treeIn (o .words) (o .text))
 
 abbrev pub Counts : Type 0
 Counts =
     (config : Config) (input words text : List ℕ)
-    → (reading config input words text) .number ≡ 0 → Counted (reading config input words text)
+    → (reading config input words text) .answer .number ≡ 0 → Counted (reading config input words text)

@@ -23,11 +23,11 @@ pub record Lasting (number : ℕ) : Type 0 where
 -- What the reading o of n bytes says of the reading g of the same bytes, `&` and more.
 pub record Grew (n : ℕ) (o g : Outcome) : Type 0 where
   -- if both are accepted, the tree that g leaves in its buffers keeps the tree that o leaves in its own
-  pub keeps : o .number ≡ 0 → g .number ≡ 0 → KeepsTree (treeIn (g .words) (g .text)) (treeIn (o .words) (o .text))
+  pub keeps : o .answer .number ≡ 0 → g .answer .number ≡ 0 → KeepsTree (treeIn (g .words) (g .text)) (treeIn (o .words) (o .text))
   -- if only o is accepted, g is refused at a place past the `&`
-  pub late : o .number ≡ 0 → (g .number ≡ 0 → ⊥) → n + 1 < g .place
+  pub late : o .answer .number ≡ 0 → (g .answer .number ≡ 0 → ⊥) → n + 1 < g .answer .place
   -- if o is refused lastingly, g is refused by the same number at the same place
-  pub stands : Lasting (o .number) → (g .number ≡ o .number) × (g .place ≡ o .place)
+  pub stands : Lasting (o .answer .number) → (g .answer .number ≡ o .answer .number) × (g .answer .place ≡ o .answer .place)
 
 -- A and then A, `&`, B: read at the same settings, the second with buffers at least as large, whatever the buffers held before.
 abbrev pub Growth : Type 0

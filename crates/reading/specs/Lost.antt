@@ -22,8 +22,8 @@ treeOf input = treeIn ((readOf input) .words) ((readOf input) .text)
 
 -- Both inputs are accepted, and what the first leaves doesn't keep what the second leaves.
 pub record Lost (w v : String) : Type 0 where
-  pub accepted : (readOf w) .number ≡ 0
-  pub acceptedToo : (readOf v) .number ≡ 0
+  pub accepted : (readOf w) .answer .number ≡ 0
+  pub acceptedToo : (readOf v) .answer .number ≡ 0
   pub notKept : KeepsTree (treeOf w) (treeOf v) → ⊥
 
 abbrev pub lost : List (String × String)

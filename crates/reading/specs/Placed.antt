@@ -13,4 +13,4 @@ pub record InPlace (input : List ℕ) (place : ℕ) : Type 0 where
   pub bounded : place ≤ maxLen + 1
 
 abbrev pub Placed : Type 0
-Placed = (config : Config) (input words text : List ℕ) → InPlace input ((reading config input words text) .place)
+Placed = (config : Config) (input words text : List ℕ) → InPlace input ((reading config input words text) .answer .place)

@@ -8,6 +8,7 @@ use lib.ListN.{length, replicate}
 use Rattle.config.specs.declared.Config.{Config}
 use Rattle.config.specs.Limits.{maxDepth, maxLen}
 use Rattle.row.specs.Row.{recordWidth}
+use Rattle.reading.specs.declared.Reading.{Reading}
 use Rattle.reading.specs.Values.{uninitialized, noValue}
 use Rattle.refusals.specs.declared.Refusal.{Refusal}
 use Rattle.refusals.specs.declared.Refusal.the-variants.{TooDeep, TooLong, NoRecord}
@@ -21,12 +22,16 @@ use Rattle.reading.specs.Records.{layout}
 -- "The result gives number (0 accepted), place (0 if accepted), records used and text bytes used, the last two 0 on refusal." With it, what
 -- the words and the text hold then.
 pub record Outcome : Type 0 where
-  pub number : ℕ
-  pub place : ℕ
-  pub records : ℕ
-  pub bytes : ℕ
+  pub answer : Reading
   pub words : List ℕ
   pub text : List ℕ
+
+-- An answer that accepts, with what is used; and one that refuses.
+abbrev pub accepts : ℕ → ℕ → Reading
+accepts records bytes = record { number = 0; place = 0; records = records; bytes = bytes }
+
+abbrev pub refuses : Refusal → ℕ → Reading
+refuses x place = record { number = code x; place = place; records = 0; bytes = 0 }
 
 -- "A record is 8 words; spare words at the end make no record."
 abbrev pub lentBy : List ℕ → List ℕ → Lent
@@ -42,19 +47,16 @@ parsed config (b ∷ s) lent = run config lent (tokens config (b ∷ s)) 0 (root
 abbrev pub outcome : ℕ → ℕ → Answer → Outcome
 outcome words bytes (accepted tree used text) =
     record {
-      number = 0;
-      place = 0;
-      records = used;
-      bytes = length text;
+      answer = accepts used (length text);
       words = layout used tree ++ replicate (words - used * recordWidth) 0;
       text = text ++ replicate (bytes - length text) 0;
     }
 outcome words bytes (refusedAt x place) =
-    record { number = code x; place = place; records = 0; bytes = 0; words = replicate words 0; text = replicate bytes 0 }
+    record { answer = refuses x place; words = replicate words 0; text = replicate bytes 0 }
 
 -- Refusals 1 to 3: "place 0, buffers unchanged".
 abbrev pub unread : Refusal → List ℕ → List ℕ → Outcome
-unread x words text = record { number = code x; place = 0; records = 0; bytes = 0; words = words; text = text }
+unread x words text = record { answer = refuses x 0; words = words; text = text }
 
 unfoldable pub reading : Config → List ℕ → List ℕ → List ℕ → Outcome
 reading config input words text =

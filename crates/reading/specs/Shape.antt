@@ -90,5 +90,5 @@ abbrev mutual
 abbrev pub Shape : Type 0
 Shape =
     (config : Config) (input words text : List ℕ)
-    → (reading config input words text) .number ≡ 0
+    → (reading config input words text) .answer .number ≡ 0
     → Accepts (λ tree used laid. Shaped tree × DecidedBelow tree × Rising 0 used tree) (parsed config input (lentBy words text))

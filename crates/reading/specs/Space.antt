@@ -25,4 +25,4 @@ pub record NotForSpace (number : ℕ) : Type 0 where
 abbrev pub Space : Type 0
 Space =
     (config : Config) (input words text : List ℕ)
-    → Enough input (lentBy words text) → NotForSpace ((reading config input words text) .number)
+    → Enough input (lentBy words text) → NotForSpace ((reading config input words text) .answer .number)

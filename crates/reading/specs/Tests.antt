@@ -9,7 +9,8 @@ use lib.ListN.{length, replicate}
 use Rattle.config.specs.declared.Config.{Config}
 use Rattle.config.specs.Defaults.{defaults}
 use Rattle.row.specs.Row.{recordWidth}
-use Rattle.reading.specs.Reading.{Outcome, reading}
+use Rattle.reading.specs.declared.Reading.{Reading}
+use Rattle.reading.specs.Reading.{Outcome, accepts, reading}
 
 -- The bytes of an ASCII text.
 abbrev pub ascii : String → List ℕ
@@ -60,21 +61,22 @@ usual input expects = test defaults 48 12 input expects
 abbrev pub before : ℕ → List ℕ
 before n = replicate n 7
 
+-- The answer that refuses by a number.
+abbrev pub refusal : ℕ → ℕ → Reading
+refusal number place = record { number = number; place = place; records = 0; bytes = 0 }
+
 -- The outcome that is expected, whole, where so many words and bytes are lent.
 abbrev pub expected : ℕ → ℕ → Expected → Outcome
 expected words bytes (holds rows text) =
     record {
-      number = 0;
-      place = 0;
-      records = length rows;
-      bytes = length (ascii text);
+      answer = accepts (length rows) (length (ascii text));
       words = flatten rows ++ replicate (words - length rows * recordWidth) 0;
       text = ascii text ++ replicate (bytes - length (ascii text)) 0;
     }
 expected words bytes (refuses number place) =
-    record { number = number; place = place; records = 0; bytes = 0; words = replicate words 0; text = replicate bytes 0 }
+    record { answer = refusal number place; words = replicate words 0; text = replicate bytes 0 }
 expected words bytes (untouched number) =
-    record { number = number; place = 0; records = 0; bytes = 0; words = before words; text = before bytes }
+    record { answer = refusal number 0; words = before words; text = before bytes }
 
 -- Every test of the list has its outcome.
 abbrev pub AllPass : List Test → Type 0

@@ -12,7 +12,7 @@ use Rattle.reading.specs.Buffers.{treeIn}
 abbrev pub TreeHeld : Type 0
 TreeHeld =
     (config : Config) (input words text : List ℕ)
-    → (reading config input words text) .number ≡ 0
+    → (reading config input words text) .answer .number ≡ 0
     → Accepts
     (λ tree used laid. treeIn ((reading config input words text) .words) ((reading config input words text) .text) ≡ plain tree)
     (parsed config input (lentBy words text))

@@ -26,5 +26,5 @@ abbrev mutual
 abbrev pub UniqueKeys : Type 0
 UniqueKeys =
     (config : Config) (input words text : List ℕ)
-    → (reading config input words text) .number ≡ 0
+    → (reading config input words text) .answer .number ≡ 0
     → Unique (treeIn ((reading config input words text) .words) ((reading config input words text) .text))

@@ -1,4 +1,16 @@
-// What a query string means: document 01's reading as definitions (specs/) and the theorems over them (proofs/). It
-// has no code. The headline is specs/Reading; what is proved of it stands in specs/Answers, Placed, TreeHeld, Counts,
-// Shape, UniqueKeys, Space, Growth, Starred and Others, and of what growth rules out in specs/Lost.
-// Below it stand the settings (config), the key rule (key), decoding (decode) and laws.
+// What a query string means: document 01's reading as definitions (specs/) and the theorems over them (proofs/). It has
+// no code but the struct of a reading's answer. The headline is specs/Reading; what is proved of it stands in
+// specs/Answers, Placed, TreeHeld, Counts, Shape, UniqueKeys, Space, Growth, Starred and Others, and of what growth
+// rules out in specs/Lost.
+// Below it stand the settings (config), the key rule (key), decoding (decode), the refusals (refusals), a record's row
+// (row), bytes by name (ascii) and laws.
+
+// Document 01's result of a reading: number (0 accepted), place (0 if accepted), records used and text bytes used, the
+// last two 0 on refusal. C gets it as it stands.
+#[repr(C)]
+pub struct Reading {
+    pub number: u32,
+    pub place: u32,
+    pub records: u32,
+    pub bytes: u32,
+}
