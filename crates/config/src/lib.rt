@@ -3,7 +3,7 @@
 // Nothing stands below it.
 ghost use mathlib.Core.Path.{_≡_};
 ghost use lib.Dec.{ltb};
-ghost use Rattle.config.specs.Defaults.{defaults};
+ghost use Rattle.config.specs.Defaults.{settings, defaults};
 ghost use Rattle.config.specs.Limits.{maxDepth, maxLen};
 
 // How deep brackets nest (`max_depth` in the source), and the form flag, under which `%5B` and `%5D` are taken as
@@ -20,14 +20,18 @@ impl Config {
     // The greatest length of an input that isn't refused, in bytes.
     pub const MAX_LEN: usize = 65535;
 
+    // Settings of a depth and the form flag: the one place where they are made.
+    pub fn with(depth: usize, form: bool) -> Config
+        ensures { λ r. ⌜ r ≡ settings depth form ⌝ }
+    {
+        Config { depth, form }
+    }
+
     // The source's default settings.
     pub fn new() -> Config
         ensures { λ r. ⌜ r ≡ defaults ⌝ }
     {
-        Config {
-            depth: 5,
-            form: false,
-        }
+        Config::with(5, false)
     }
 
     // Whether the depth is refused.

@@ -1,15 +1,15 @@
--- A relation between trees before and after, with their counts, that the basic changes keep to and that passes from a child to its parent: every
+-- A relation between trees before and after, with what they use, that the basic changes keep to and that passes from a child to its parent: every
 -- command keeps to it.
 use Prim.Native.Nat.{ℕ, _+_, Ordering·eq, Ordering·gt}
-use mathlib.Core.Path.{_≡_}
+use mathlib.Core.Path.{_≡_, refl, _∙_}
 use mathlib.Core.List.{List, _++_}
 use lib.ListN.{length}
 use Rattle.key.specs.Keys.{Key}
-use Rattle.reading.specs.Values.{Label, unkeyed, labelKey, Value, uninitialized, map, sequence, Forest, none, child}
-use Rattle.reading.specs.Leaves.{Leaf}
 use Rattle.key.specs.KeyOrder.{compareKeys}
-use Rattle.reading.specs.Charging.{Lent, Rule, over, bind}
-use Rattle.reading.specs.Adding.{expectMap, expectSequence, keyText, leafText, labelAt, valueAt, snoc, push, appendValue, insertUnique, enterKey, atPath}
+use Rattle.reading.specs.Values.{unkeyed, Row, rowKey, bare, Value, uninitialized, map, sequence, Forest, none, child, Node, at}
+use Rattle.reading.specs.Leaves.{Leaf}
+use Rattle.reading.specs.Charging.{Environment, Used, more, NodeRule}
+use Rattle.reading.specs.Adding.{mapAt, sequenceAt, becomeMap, becomeSequence, keyText, leafText, rowAt, valueAt, snoc, appendValue, insertUnique, enterKey, pushLast, atPath}
 use Rattle.reading.specs.Scanning.{root, under, last, Command, skip, refuse, enter, needMap, needSequence, add}
 use Rattle.reading.specs.Running.{perform}
 use Rattle.reading.specs.Shape.{SingleValue}
@@ -18,106 +18,139 @@ use Rattle.reading.proofs.Results.{Each, gives-over, gives-weaken, With
 use Rattle.reading.proofs.Rules.{Fits, OfValue, OfChildren, Obeys, Passes, Adding, Entering, at-path, append-obeys, insert-obeys, push-obeys, enter-obeys, map-obeys, sequence-obeys}
 
 abbrev pub Change : Type 0 → Type 1
-Change A = A → ℕ → List ℕ → A → ℕ → List ℕ → Type 0
+Change A = A → Used → A → Used → Type 0
 
--- C relates values; D relates a map's children, changed at a key.
-pub record Changes (lent : Lent) (C : Change Value) (D : Key → Change Forest) : Type 0 where
-  pub here : (k : Key) (m : ℕ) (l : Label) (v : Value) (cs : Forest) (n : ℕ) (t : List ℕ) (w : Value) (i : ℕ) (u : List ℕ)
-      → compareKeys k (labelKey l) ≡ Ordering·eq → C v n t w i u → D k (child m l v cs) n t (child m l w cs) i u
-  pub later : (k : Key) (m : ℕ) (l : Label) (v : Value) (cs : Forest) (n : ℕ) (t : List ℕ) (ds : Forest) (i : ℕ) (u : List ℕ)
-      → compareKeys k (labelKey l) ≡ Ordering·gt → D k cs n t ds i u → D k (child m l v cs) n t (child m l v ds) i u
-  pub inMap : (k : Key) (cs : Forest) (n : ℕ) (t : List ℕ) (ds : Forest) (i : ℕ) (u : List ℕ) → D k cs n t ds i u → C (map cs) n t (map ds) i u
-  pub toMap : (k : Key) (n : ℕ) (t : List ℕ) (ds : Forest) (i : ℕ) (u : List ℕ) → D k none n t ds i u → C uninitialized n t (map ds) i u
-  pub same : (v : Value) (n : ℕ) (t : List ℕ) → C v n t v n t
-  pub newMap : (n : ℕ) (t : List ℕ) → C uninitialized n t (map none) n t
-  pub newSequence : (n : ℕ) (t : List ℕ) → C uninitialized n t (sequence none) n t
-  pub entered : (k : Key) (cs : Forest) (n : ℕ) (t : List ℕ) → Fits k cs → Within lent (n + 1) (t ++ keyText k)
-      → D k cs n t (child n (labelAt k (length t)) uninitialized cs) (n + 1) (t ++ keyText k)
-  pub inserted : (k : Key) (x : Leaf) (cs : Forest) (n : ℕ) (t : List ℕ) → Fits k cs → Within lent (n + 1) (t ++ (keyText k ++ leafText x))
-      → D k cs n t (child n (labelAt k (length t)) (valueAt x (length t + length (keyText k))) cs) (n + 1) (t ++ (keyText k ++ leafText x))
-  pub becomes : (x : Leaf) (n : ℕ) (t : List ℕ) → Within lent (n + 0) (t ++ leafText x) → C uninitialized n t (valueAt x (length t)) (n + 0) (t ++ leafText x)
-  pub paired : (x : Leaf) (v : Value) (n : ℕ) (t : List ℕ) → SingleValue v → Within lent (n + 2) (t ++ leafText x)
-      → C v n t (sequence (child n unkeyed v (child (n + 1) unkeyed (valueAt x (length t)) none))) (n + 2) (t ++ leafText x)
-  pub pushed : (x : Leaf) (cs : Forest) (n : ℕ) (t : List ℕ) → Within lent (n + 1) (t ++ leafText x)
-      → C (sequence cs) n t (sequence (snoc cs (child n unkeyed (valueAt x (length t)) none))) (n + 1) (t ++ leafText x)
-  pub pushedFirst : (x : Leaf) (n : ℕ) (t : List ℕ) → Within lent (n + 1) (t ++ leafText x)
-      → C uninitialized n t (sequence (child n unkeyed (valueAt x (length t)) none)) (n + 1) (t ++ leafText x)
+-- A new element of a Sequence, and the two that a single value becomes.
+abbrev pub element : Leaf → Used → Forest
+element x u = child (u .records) bare (valueAt x (length (u .text))) none
 
-module _ {lent : Lent} {C : Change Value} {D : Key → Change Forest} (c : Changes lent C D) where
+abbrev pub two : Leaf → Value → Used → Forest
+two x v u = child (u .records) bare v (child (u .records + 1) bare (valueAt x (length (u .text))) none)
+
+-- A new child under a key: with a leaf, or entered.
+abbrev pub newChild : Key → Leaf → Forest → Used → Forest
+newChild k x cs u = child (u .records) (rowAt k (length (u .text))) (valueAt x (length (u .text) + length (keyText k))) cs
+
+abbrev pub newEntry : Key → Forest → Used → Forest
+newEntry k cs u = child (u .records) (rowAt k (length (u .text))) uninitialized cs
+
+-- C relates records, whose keys no rule changes; D relates a map's children, changed at a key.
+pub record Changes (env : Environment) (C : Change Node) (D : Key → Change Forest) : Type 0 where
+  pub here : (k : Key) (m : ℕ) (l : Row) (v : Value) (cs : Forest) (u : Used) (w : Node) (u′ : Used)
+      → compareKeys k (rowKey l) ≡ Ordering·eq → w .row .label ≡ l .label → C (at l v) u w u′
+      → D k (child m l v cs) u (child m (w .row) (w .value) cs) u′
+  pub later : (k : Key) (m : ℕ) (l : Row) (v : Value) (cs : Forest) (u : Used) (ds : Forest) (u′ : Used)
+      → compareKeys k (rowKey l) ≡ Ordering·gt → D k cs u ds u′ → D k (child m l v cs) u (child m l v ds) u′
+  pub inMap : (k : Key) (l : Row) (cs : Forest) (u : Used) (ds : Forest) (u′ : Used) → D k cs u ds u′ → C (mapAt l cs) u (mapAt l ds) u′
+  pub toMap : (k : Key) (l : Row) (u : Used) (ds : Forest) (u′ : Used) → D k none u ds u′ → C (at l uninitialized) u (mapAt l ds) u′
+  pub same : (n : Node) (u : Used) → C n u n u
+  pub newMap : (l : Row) (u : Used) → C (at l uninitialized) u (mapAt l none) u
+  pub newSequence : (l : Row) (u : Used) → C (at l uninitialized) u (sequenceAt l none) u
+  pub entered : (k : Key) (cs : Forest) (u : Used) → Fits k cs → Within (env .lent) (more u 1 (keyText k))
+      → D k cs u (newEntry k cs u) (more u 1 (keyText k))
+  pub inserted : (k : Key) (x : Leaf) (cs : Forest) (u : Used) → Fits k cs → Within (env .lent) (more u 1 (keyText k ++ leafText x))
+      → D k cs u (newChild k x cs u) (more u 1 (keyText k ++ leafText x))
+  pub becomes : (x : Leaf) (l : Row) (u : Used) → Within (env .lent) (more u 0 (leafText x))
+      → C (at l uninitialized) u (at l (valueAt x (length (u .text)))) (more u 0 (leafText x))
+  pub paired : (x : Leaf) (l : Row) (v : Value) (u : Used) → SingleValue v → Within (env .lent) (more u 2 (leafText x))
+      → C (at l v) u (sequenceAt l (two x v u)) (more u 2 (leafText x))
+  pub pushed : (x : Leaf) (l : Row) (cs : Forest) (u : Used) → Within (env .lent) (more u 1 (leafText x))
+      → C (sequenceAt l cs) u (sequenceAt l (snoc cs (element x u))) (more u 1 (leafText x))
+  pub pushedFirst : (x : Leaf) (l : Row) (u : Used) → Within (env .lent) (more u 1 (leafText x))
+      → C (at l uninitialized) u (sequenceAt l (element x u)) (more u 1 (leafText x))
+
+-- What a rule makes of a record has its key, and C.
+pub record Kept (C : Change Node) (n : Node) (u : Used) (n′ : Node) (u′ : Used) : Type 0 where
+  pub label : n′ .row .label ≡ n .row .label
+  pub change : C n u n′ u′
+
+kept : {C : Change Node} {n n′ : Node} {u u′ : Used} → n′ .row .label ≡ n .row .label → C n u n′ u′ → Kept C n u n′ u′
+kept e h = record { label = e; change = h }
+
+module _ {env : Environment} {C : Change Node} {D : Key → Change Forest} (c : Changes env C D) where
   abbrev OnValue : OfValue
-  OnValue v n t r = Each (C v n t) r
+  OnValue l v u r = Each (Kept C (at l v) u) r
 
   abbrev OnChildren : OfChildren
-  OnChildren k cs n t r = Each (D k cs n t) r
+  OnChildren k cs u r = Each (D k cs u) r
 
   passes : Passes OnValue OnChildren
   passes =
       record {
-        here = λ k m l v cs n t r e h. gives-over (λ w. child m l w cs) (λ w i u a. c .here k m l v cs n t w i u e a) h;
-        later = λ k m l v cs n t r e h. gives-over (child m l v) (λ ds i u a. c .later k m l v cs n t ds i u e a) h;
-        inMap = λ k cs n t r h. gives-over map (λ ds i u a. c .inMap k cs n t ds i u a) h;
-        toMap = λ k n t r h. gives-over map (λ ds i u a. c .toMap k n t ds i u a) h;
-        unfit = λ v n t u. refuses tt;
+        here = λ k m l v cs u r e h.
+            gives-over (λ w. child m (w .row) (w .value) cs) (λ w u′ a. c .here k m l v cs u w u′ e (a .label) (a .change)) h;
+        later = λ k m l v cs u r e h. gives-over (child m l v) (λ ds u′ a. c .later k m l v cs u ds u′ e a) h;
+        inMap = λ k l cs u r h. gives-over (mapAt l) (λ ds u′ a. kept refl (c .inMap k l cs u ds u′ a)) h;
+        toMap = λ k l u r h. gives-over (mapAt l) (λ ds u′ a. kept refl (c .toMap k l u ds u′ a)) h;
+        unfit = λ l v u x. refuses tt;
       }
 
-  adding : (x : Leaf) → Adding lent x (λ k. Unit) OnValue OnChildren
+  adding : (x : Leaf) → Adding env x (λ k. Unit) OnValue OnChildren
   adding x =
       record {
         passes = passes;
         emptyKey = tt;
-        inserted = λ k g cs n t e.
-            each-charge lent 1 (keyText k ++ leafText x) (child n (labelAt k (length t)) (valueAt x (length t + length (keyText k))) cs) n t (c .inserted k x cs n t e);
-        becomes = λ n t. each-charge lent 0 (leafText x) (valueAt x (length t)) n t (c .becomes x n t);
-        paired = λ v n t s.
-            each-charge lent 2 (leafText x) (sequence (child n unkeyed v (child (n + 1) unkeyed (valueAt x (length t)) none))) n t (c .paired x v n t s);
-        pushed = λ cs n t. each-charge lent 1 (leafText x) (sequence (snoc cs (child n unkeyed (valueAt x (length t)) none))) n t (c .pushed x cs n t);
-        pushedFirst = λ n t. each-charge lent 1 (leafText x) (sequence (child n unkeyed (valueAt x (length t)) none)) n t (c .pushedFirst x n t);
+        inserted = λ k g cs u e. each-charge env 1 (keyText k ++ leafText x) (newChild k x cs u) u (c .inserted k x cs u e);
+        becomes = λ l u. each-charge env 0 (leafText x) (at l (valueAt x (length (u .text)))) u (λ f. kept refl (c .becomes x l u f));
+        paired = λ l v u s. each-charge env 2 (leafText x) (sequenceAt l (two x v u)) u (λ f. kept refl (c .paired x l v u s f));
+        pushed = λ l cs u. each-charge env 1 (leafText x) (sequenceAt l (snoc cs (element x u))) u (λ f. kept refl (c .pushed x l cs u f));
+        pushedFirst = λ l u. each-charge env 1 (leafText x) (sequenceAt l (element x u)) u (λ f. kept refl (c .pushedFirst x l u f));
       }
 
-  entering : Entering lent (λ k. Unit) OnValue OnChildren
+  entering : Entering env (λ k. Unit) OnValue OnChildren
   entering =
       record {
         passes = passes;
-        same = λ v n t. gives (c .same v n t);
-        entered = λ k g cs n t e. each-charge lent 1 (keyText k) (child n (labelAt k (length t)) uninitialized cs) n t (c .entered k cs n t e);
-        newMap = λ n t. gives (c .newMap n t);
-        newSequence = λ n t. gives (c .newSequence n t);
+        same = λ l v u. gives (kept refl (c .same (at l v) u));
+        entered = λ k g cs u e. each-charge env 1 (keyText k) (newEntry k cs u) u (c .entered k cs u e);
+        newMap = λ l u. gives (kept refl (c .newMap l u));
+        newSequence = λ l u. gives (kept refl (c .newSequence l u));
       }
 
-  pub append-changes : (x : Leaf) → Obeys OnValue (appendValue lent x)
-  append-changes x = append-obeys (adding x)
+  append-kept : (x : Leaf) → Obeys OnValue (appendValue env x)
+  append-kept x = append-obeys (adding x)
 
-  pub at-path-changes : (ks : List Key) (rule : Rule Value) → Obeys OnValue rule → Obeys OnValue (atPath ks rule)
-  at-path-changes = at-path passes (λ v n t. refuses tt) (λ k cs n t. refuses tt)
+  at-path-kept : (ks : List Key) (rule : NodeRule) → Obeys OnValue rule → Obeys OnValue (atPath ks rule)
+  at-path-kept = at-path passes (λ l v u. refuses tt) (λ k cs u. refuses tt)
 
-  pub perform-changes : (command : Command) → Obeys OnValue (perform lent command)
-  perform-changes skip v n t = gives (c .same v n t)
-  perform-changes (refuse x) v n t = refuses tt
-  perform-changes (enter path key) v n t = at-path-changes path (enterKey lent key) (enter-obeys entering key tt) v n t
-  perform-changes (needMap path) v n t = at-path-changes path (λ w i u. over map (expectMap w i u)) (map-obeys entering) v n t
-  perform-changes (needSequence path) v n t = at-path-changes path (λ w i u. over sequence (expectSequence w i u)) (sequence-obeys entering) v n t
-  perform-changes (add root x) v n t = append-changes x v n t
-  perform-changes (add (under path key) x) v n t = at-path-changes path (insertUnique lent key x) (insert-obeys (adding x) key tt) v n t
-  perform-changes (add (last path) x) v n t = at-path-changes path (λ w i u. bind (expectSequence w i u) (push lent x)) (push-obeys (adding x)) v n t
+  pub append-at-changes : (ks : List Key) (x : Leaf) (l : Row) (v : Value) (u : Used) → Each (C (at l v) u) (atPath ks (appendValue env x) l v u)
+  append-at-changes ks x l v u = gives-weaken (λ n u′ h. h .change) (at-path-kept ks (appendValue env x) (append-kept x) l v u)
+
+  pub perform-kept : (command : Command) (n : Node) (u : Used) → Each (Kept C n u) (perform env command n u)
+  perform-kept skip n u = gives (kept refl (c .same n u))
+  perform-kept (refuse x) n u = refuses tt
+  perform-kept (enter path key) n u = at-path-kept path (enterKey env key) (enter-obeys entering key tt) (n .row) (n .value) u
+  perform-kept (needMap path) n u = at-path-kept path becomeMap (map-obeys entering) (n .row) (n .value) u
+  perform-kept (needSequence path) n u = at-path-kept path becomeSequence (sequence-obeys entering) (n .row) (n .value) u
+  perform-kept (add root x) n u = append-kept x (n .row) (n .value) u
+  perform-kept (add (under path key) x) n u = at-path-kept path (insertUnique env key x) (insert-obeys (adding x) key tt) (n .row) (n .value) u
+  perform-kept (add (last path) x) n u = at-path-kept path (pushLast env x) (push-obeys (adding x)) (n .row) (n .value) u
+
+  pub perform-changes : (command : Command) (n : Node) (u : Used) → Each (C n u) (perform env command n u)
+  perform-changes command n u = gives-weaken (λ n′ u′ h. h .change) (perform-kept command n u)
 
 -- No command uses more than what is lent.
-within : (lent : Lent) → Changes lent (λ v n t w i u. Within lent n t → Within lent i u) (λ k cs n t ds i u. Within lent n t → Within lent i u)
-within lent =
+within : (env : Environment) → Changes env (λ n u n′ u′. Within (env .lent) u → Within (env .lent) u′) (λ k cs u ds u′. Within (env .lent) u → Within (env .lent) u′)
+within env =
     record {
-      here = λ k m l v cs n t w i u e h. h;
-      later = λ k m l v cs n t ds i u e h. h;
-      inMap = λ k cs n t ds i u h. h;
-      toMap = λ k n t ds i u h. h;
-      same = λ v n t h. h;
-      newMap = λ n t h. h;
-      newSequence = λ n t h. h;
-      entered = λ k cs n t e f h. f;
-      inserted = λ k x cs n t e f h. f;
-      becomes = λ x n t f h. f;
-      paired = λ x v n t s f h. f;
-      pushed = λ x cs n t f h. f;
-      pushedFirst = λ x n t f h. f;
+      here = λ k m l v cs u w u′ e f h. h;
+      later = λ k m l v cs u ds u′ e h. h;
+      inMap = λ k l cs u ds u′ h. h;
+      toMap = λ k l u ds u′ h. h;
+      same = λ n u h. h;
+      newMap = λ l u h. h;
+      newSequence = λ l u h. h;
+      entered = λ k cs u e f h. f;
+      inserted = λ k x cs u e f h. f;
+      becomes = λ x l u f h. f;
+      paired = λ x l v u s f h. f;
+      pushed = λ x l cs u f h. f;
+      pushedFirst = λ x l u f h. f;
     }
 
-pub perform-within : (lent : Lent) (c : Command) (v : Value) (n : ℕ) (t : List ℕ) → Within lent n t → Each (λ w i u. Within lent i u) (perform lent c v n t)
-perform-within lent c v n t h = gives-weaken (λ w i u f. f h) (perform-changes (within lent) c v n t)
+pub perform-within : (env : Environment) (c : Command) (n : Node) (u : Used) → Within (env .lent) u → Each (λ n′ u′. Within (env .lent) u′) (perform env c n u)
+perform-within env c n u h = gives-weaken (λ n′ u′ f. f h) (perform-changes (within env) c n u)
+
+-- No command gives the root a key.
+pub perform-bare : (env : Environment) (c : Command) (n : Node) (u : Used) → n .row .label ≡ unkeyed → Each (λ n′ u′. n′ .row .label ≡ unkeyed) (perform env c n u)
+perform-bare env c n u h = gives-weaken (λ n′ u′ f. f .label ∙ h) (perform-kept (within env) c n u)

@@ -1,11 +1,12 @@
 -- Every command only adds to the tree, if anything undecided may become anything; and where nothing below the root is undecided, what has
 -- grown keeps what it grew from.
 use Prim.Native.Nat.{ℕ}
+use mathlib.Core.Path.{_≡_, refl, ap, _∙_}
 use mathlib.Core.List.{List}
 use lib.ListN.{length}
 use Rattle.key.specs.Keys.{Key}
-use Rattle.reading.specs.Values.{Label, unkeyed, Value, uninitialized, null, noValue, string, map, sequence, Forest, none, child}
-use Rattle.reading.specs.Charging.{Lent}
+use Rattle.reading.specs.Values.{labelKey, Row, bare, Value, uninitialized, null, noValue, string, map, sequence, Forest, none, child, Node}
+use Rattle.reading.specs.Charging.{Environment, Used}
 use Rattle.reading.specs.Adding.{valueAt, snoc}
 use Rattle.reading.specs.Scanning.{Command}
 use Rattle.reading.specs.Running.{perform}
@@ -14,27 +15,27 @@ use Rattle.reading.specs.Keeping.{Single, StartsWith, sameFirst, Keeps, 
 use Rattle.reading.specs.Keeping
 use Rattle.reading.specs.Shape.{SingleValue, isNull, isNoValue, isString, Decided, DecidedAll, DecidedBelow}
 use Rattle.reading.proofs.Results.{All}
-use Rattle.reading.proofs.Changes.{Changes, perform-changes}
+use Rattle.reading.proofs.Changes.{Changes, element, perform-changes}
 
 -- The second starts with the children of the first.
 pub data Starts : Forest → Forest → Type 0 where
   noMore : {ds : Forest} → Starts none ds
-  next : {m : ℕ} {l : Label} {v : Value} {cs ds : Forest} → Starts cs ds → Starts (child m l v cs) (child m l v ds)
+  next : {m : ℕ} {l : Row} {v : Value} {cs ds : Forest} → Starts cs ds → Starts (child m l v cs) (child m l v ds)
 
 -- The second has grown from the first.
 mutual
   pub data Grown : Value → Value → Type 0 where
     undecided : {w : Value} → Grown uninitialized w
     same : {v : Value} → SingleValue v → Grown v v
-    joined : {m : ℕ} {l : Label} {v : Value} {ds : Forest} → SingleValue v → Grown v (sequence (child m l v ds))
+    joined : {m : ℕ} {l : Row} {v : Value} {ds : Forest} → SingleValue v → Grown v (sequence (child m l v ds))
     longer : {cs ds : Forest} → Starts cs ds → Grown (sequence cs) (sequence ds)
     wider : {cs ds : Forest} → GrownAll cs ds → Grown (map cs) (map ds)
 
   -- For a map's children: new ones come between.
   pub data GrownAll : Forest → Forest → Type 0 where
     noOld : {ds : Forest} → GrownAll none ds
-    new : {m : ℕ} {l : Label} {v : Value} {cs ds : Forest} → GrownAll cs ds → GrownAll cs (child m l v ds)
-    old : {m : ℕ} {l : Label} {v w : Value} {cs ds : Forest} → Grown v w → GrownAll cs ds → GrownAll (child m l v cs) (child m l w ds)
+    new : {m : ℕ} {l : Row} {v : Value} {cs ds : Forest} → GrownAll cs ds → GrownAll cs (child m l v ds)
+    old : {m : ℕ} {l d : Row} {v w : Value} {cs ds : Forest} → d .label ≡ l .label → Grown v w → GrownAll cs ds → GrownAll (child m l v cs) (child m d w ds)
 
 starts-refl : (cs : Forest) → Starts cs cs
 starts-refl none = noMore
@@ -59,7 +60,7 @@ mutual
 
   grown-all-refl : (cs : Forest) → GrownAll cs cs
   grown-all-refl none = noOld
-  grown-all-refl (child m l v cs) = old (grown-refl v) (grown-all-refl cs)
+  grown-all-refl (child m l v cs) = old refl (grown-refl v) (grown-all-refl cs)
 
 not-sequence : {cs : Forest} → SingleValue (sequence cs) → ⊥
 not-sequence = elim [ ]
@@ -91,30 +92,30 @@ mutual
   grown-all-trans : {bs cs ds : Forest} → GrownAll bs cs → GrownAll cs ds → GrownAll bs ds
   grown-all-trans noOld noOld = noOld
   grown-all-trans a (new b) = new (grown-all-trans a b)
-  grown-all-trans noOld (old g b) = noOld
-  grown-all-trans (new a) (old g b) = new (grown-all-trans a b)
-  grown-all-trans (old f a) (old g b) = old (grown-trans f g) (grown-all-trans a b)
+  grown-all-trans noOld (old q g b) = noOld
+  grown-all-trans (new a) (old q g b) = new (grown-all-trans a b)
+  grown-all-trans (old p f a) (old q g b) = old (q ∙ p) (grown-trans f g) (grown-all-trans a b)
 
-changes : (lent : Lent) → Changes lent (λ v n t w i u. Grown v w) (λ k cs n t ds i u. GrownAll cs ds)
-changes lent =
+changes : (env : Environment) → Changes env (λ n u n′ u′. Grown (n .value) (n′ .value)) (λ k cs u ds u′. GrownAll cs ds)
+changes env =
     record {
-      here = λ k m l v cs n t w i u e g. old g (grown-all-refl cs);
-      later = λ k m l v cs n t ds i u e g. old (grown-refl v) g;
-      inMap = λ k cs n t ds i u g. wider g;
-      toMap = λ k n t ds i u g. undecided;
-      same = λ v n t. grown-refl v;
-      newMap = λ n t. undecided;
-      newSequence = λ n t. undecided;
-      entered = λ k cs n t e f. new (grown-all-refl cs);
-      inserted = λ k x cs n t e f. new (grown-all-refl cs);
-      becomes = λ x n t f. undecided;
-      paired = λ x v n t s f. joined s;
-      pushed = λ x cs n t f. longer (starts-snoc cs (child n unkeyed (valueAt x (length t)) none));
-      pushedFirst = λ x n t f. undecided;
+      here = λ k m l v cs u w u′ e q g. old q g (grown-all-refl cs);
+      later = λ k m l v cs u ds u′ e g. old refl (grown-refl v) g;
+      inMap = λ k l cs u ds u′ g. wider g;
+      toMap = λ k l u ds u′ g. undecided;
+      same = λ n u. grown-refl (n .value);
+      newMap = λ l u. undecided;
+      newSequence = λ l u. undecided;
+      entered = λ k cs u e f. new (grown-all-refl cs);
+      inserted = λ k x cs u e f. new (grown-all-refl cs);
+      becomes = λ x l u f. undecided;
+      paired = λ x l v u s f. joined s;
+      pushed = λ x l cs u f. longer (starts-snoc cs (element x u));
+      pushedFirst = λ x l u f. undecided;
     }
 
-pub perform-grows : (lent : Lent) (c : Command) (v : Value) (n : ℕ) (t : List ℕ) → All (Grown v) (perform lent c v n t)
-perform-grows lent = perform-changes (changes lent)
+pub perform-grows : (env : Environment) (c : Command) (n : Node) (u : Used) → All (λ n′. Grown (n .value) (n′ .value)) (perform env c n u)
+perform-grows env = perform-changes (changes env)
 
 -- From growth to keeping.
 single : {v : Value} → SingleValue v → Single (plain v)
@@ -130,6 +131,9 @@ keeps-more : {k : Key} {w : Tree} {vs ws : Entries} → KeepsEach ws vs → Keep
 keeps-more noKeys = noKeys
 keeps-more (alsoKey h q r) = alsoKey (Keeping.further h) q (keeps-more r)
 
+has : {k j : Key} {w : Tree} {ws : Entries} → j ≡ k → Keeping.Has k w (entry j w ws)
+has e = rw e Keeping.here
+
 mutual
   keeps : {v w : Value} → Grown v w → Decided v → Keeps (plain w) (plain v)
   keeps undecided h = absurd h
@@ -141,7 +145,7 @@ mutual
   keeps-each : {cs ds : Forest} → GrownAll cs ds → DecidedAll cs → KeepsEach (entries ds) (entries cs)
   keeps-each noOld h = noKeys
   keeps-each (new r) h = keeps-more (keeps-each r h)
-  keeps-each (old g r) h = alsoKey Keeping.here (keeps g (h .0)) (keeps-more (keeps-each r (h .1)))
+  keeps-each (old q g r) h = alsoKey (has (ap labelKey q)) (keeps g (h .0)) (keeps-more (keeps-each r (h .1)))
 
 pub keeps-tree : {v w : Value} → Grown v w → DecidedBelow v → KeepsTree (plain w) (plain v)
 keeps-tree undecided h = undecidedRoot

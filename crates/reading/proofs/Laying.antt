@@ -30,7 +30,7 @@ mutual
 
   pub laid-all-more : (t y : List ℕ) (cs : Forest) → LaidAll t cs → LaidAll (t ++ y) cs
   laid-all-more t y none h = h
-  laid-all-more t y (child m l v cs) h = (laid-label-more t y l (h .0), laid-more t y v (h .1), laid-all-more t y cs (h .2))
+  laid-all-more t y (child m l v cs) h = (laid-label-more t y (l .label) (h .0), laid-more t y v (h .1), laid-all-more t y cs (h .2))
 
 -- What is laid down at the end of a text lies there.
 lies-end : (t x : List ℕ) → Lies (t ++ x) (length t) x

@@ -1,4 +1,4 @@
--- The words of a tree's records hold the tree: `treeIn` reads back what `layout` writes.
+-- The words of a tree's records hold the tree: `nodeIn` reads back what `layout` writes.
 use Prim.Native.Nat.{ℕ, zero, suc, _+_, _*_, _≤_, _<_}
 use mathlib.Core.Path.{_≡_, refl, ap, sym, _∙_}
 use mathlib.Core.Bool.{Bool, true, false}
@@ -8,51 +8,53 @@ use borrow.Author.Tests.{eq-eqb, ne-eqb, ltb-true}
 use lib.Dec.{eqb, ltb}
 use lib.ListN.{length, getD, replicate, length-append, List·getD-append}
 use lib.Seq.{getD-append-add}
-use Rattle.row.specs.Row.{recordWidth}
-use Rattle.key.specs.Keys.{str}
-use Rattle.reading.specs.Values.{Label, unkeyed, intKey, stringKey, labelKey, Value, uninitialized, null, noValue, string, map, sequence, Forest, none, child}
-use Rattle.reading.specs.Records.{kind, keyWords, textOffset, textLength, first, firstChild, recordWords, recordBelow, recordAmong, recordsFrom, layout}
-use Rattle.reading.specs.Trees.{Tree, noEntries, noElements, plain, entries, elements}
+use Rattle.row.specs.Row.{recordWidth, kindWord, keyKindWord, keyWord, keyLengthWord, textWord, textLengthWord, childWord, nextWord}
 use Rattle.row.specs.Words.{word}
-use Rattle.reading.specs.Buffers.{keyAt, treeAt, entriesAt, elementsAt, treeIn}
+use Rattle.reading.specs.Values.{Label, unkeyed, intKey, stringKey, Row, Value, uninitialized, null, noValue, string, map, sequence, Forest, none, child, Node}
+use Rattle.reading.specs.Charging.{Used}
+use Rattle.reading.specs.Records.{kind, keyWords, textOffset, textLength, first, firstChild, recordWords, recordBelow, recordAmong, recordsFrom, rooted, layout}
+use Rattle.reading.specs.Trees.{plain, entries, elements}
+use Rattle.reading.specs.Buffers.{labelIn, rowIn, valueFrom, forestFrom, nodeIn}
 use Rattle.reading.specs.Counts.{values, entryValues, elementValues}
+use Rattle.reading.specs.Numbers.{tally, below, count, countAll}
 use Rattle.reading.specs.Laid.{LaidLabel, Laid, LaidAll}
+use Rattle.reading.specs.Shape.{Keyed, Unkeyed, SingleValue, isNull, isNoValue, isString, ShapedSequence, Shaped, ShapedMap}
 use Rattle.reading.proofs.Results.{by-test}
 use Rattle.reading.proofs.Laying.{lies-part, laid-more}
-use Rattle.reading.proofs.Adds.{tally, count, countAll, below}
 use Rattle.reading.proofs.Held.{Held}
 
 -- A record's words.
-pub record Row (w : List ℕ) (m : ℕ) (l : Label) (v : Value) (ds : Forest) : Type 0 where
-  pub w0 : word w m 0 ≡ kind v
-  pub w1 : word w m 1 ≡ getD (keyWords l) 0 0
-  pub w2 : word w m 2 ≡ getD (keyWords l) 1 0
-  pub w3 : word w m 3 ≡ getD (keyWords l) 2 0
-  pub w4 : word w m 4 ≡ textOffset v
-  pub w5 : word w m 5 ≡ textLength v
-  pub w6 : word w m 6 ≡ firstChild v
-  pub w7 : word w m 7 ≡ first ds
+pub record Recorded (w : List ℕ) (m : ℕ) (l : Row) (v : Value) (ds : Forest) : Type 0 where
+  pub kind-is : word w m kindWord ≡ kind v
+  pub key-kind : word w m keyKindWord ≡ getD (keyWords (l .label)) 0 0
+  pub key-is : word w m keyWord ≡ getD (keyWords (l .label)) 1 0
+  pub key-length : word w m keyLengthWord ≡ getD (keyWords (l .label)) 2 0
+  pub text-is : word w m textWord ≡ textOffset v
+  pub text-length : word w m textLengthWord ≡ textLength v
+  pub child-is : word w m childWord ≡ firstChild v
+  pub next-is : word w m nextWord ≡ first ds
 
 -- The words one by one: those of the key stand in the middle.
 spelled : (l : Label) (v : Value) (ds : Forest)
-    → recordWords l v ds
+    → recordWords (record { label = l }) v ds
     ≡ kind v ∷ getD (keyWords l) 0 0 ∷ getD (keyWords l) 1 0 ∷ getD (keyWords l) 2 0 ∷ textOffset v ∷ textLength v ∷ firstChild v ∷ first ds ∷ []
 spelled unkeyed v ds = refl
 spelled (intKey a) v ds = refl
 spelled (stringKey o x) v ds = refl
 
-row : (w : List ℕ) (m : ℕ) (l : Label) (v : Value) (ds : Forest) → ((j : ℕ) → j < recordWidth → word w m j ≡ getD (recordWords l v ds) j 0) → Row w m l v ds
-row w m l v ds h =
-    let e = spelled l v ds in
+recorded : (w : List ℕ) (m : ℕ) (l : Row) (v : Value) (ds : Forest) → ((j : ℕ) → j < recordWidth → word w m j ≡ getD (recordWords l v ds) j 0)
+    → Recorded w m l v ds
+recorded w m l v ds h =
+    let e = spelled (l .label) v ds in
     record {
-      w0 = h 0 (omega arith) ∙ ap (λ (r : List ℕ). getD r 0 0) e;
-      w1 = h 1 (omega arith) ∙ ap (λ (r : List ℕ). getD r 1 0) e;
-      w2 = h 2 (omega arith) ∙ ap (λ (r : List ℕ). getD r 2 0) e;
-      w3 = h 3 (omega arith) ∙ ap (λ (r : List ℕ). getD r 3 0) e;
-      w4 = h 4 (omega arith) ∙ ap (λ (r : List ℕ). getD r 4 0) e;
-      w5 = h 5 (omega arith) ∙ ap (λ (r : List ℕ). getD r 5 0) e;
-      w6 = h 6 (omega arith) ∙ ap (λ (r : List ℕ). getD r 6 0) e;
-      w7 = h 7 (omega arith) ∙ ap (λ (r : List ℕ). getD r 7 0) e;
+      kind-is = h kindWord (omega arith) ∙ ap (λ (r : List ℕ). getD r kindWord 0) e;
+      key-kind = h keyKindWord (omega arith) ∙ ap (λ (r : List ℕ). getD r keyKindWord 0) e;
+      key-is = h keyWord (omega arith) ∙ ap (λ (r : List ℕ). getD r keyWord 0) e;
+      key-length = h keyLengthWord (omega arith) ∙ ap (λ (r : List ℕ). getD r keyLengthWord 0) e;
+      text-is = h textWord (omega arith) ∙ ap (λ (r : List ℕ). getD r textWord 0) e;
+      text-length = h textLengthWord (omega arith) ∙ ap (λ (r : List ℕ). getD r textLengthWord 0) e;
+      child-is = h childWord (omega arith) ∙ ap (λ (r : List ℕ). getD r childWord 0) e;
+      next-is = h nextWord (omega arith) ∙ ap (λ (r : List ℕ). getD r nextWord 0) e;
     }
 
 -- The words hold the record of every value below. Record 0, the root, is no child.
@@ -67,21 +69,30 @@ abbrev mutual
 
   pub RowsAll : List ℕ → Forest → Type 0
   RowsAll w none = Unit
-  RowsAll w (child m l v cs) = Row w m l v cs × (m ≡ 0 → ⊥) × Rows w v × RowsAll w cs
+  RowsAll w (child m l v cs) = Recorded w m l v cs × (m ≡ 0 → ⊥) × Rows w v × RowsAll w cs
 
 -- Reading the tree back.
-key-back : (w t : List ℕ) (m : ℕ) (l : Label) (v : Value) (ds : Forest) → Row w m l v ds → LaidLabel t l → keyAt w t m ≡ labelKey l
-key-back w t m unkeyed v ds r h = rw (r .w1, r .w2, r .w3)
-key-back w t m (intKey a) v ds r h = rw (r .w1, r .w2)
-key-back w t m (stringKey o x) v ds r h = rw (r .w1, r .w2, r .w3) (ap str (lies-part h))
+keyed-back : (w t : List ℕ) (m : ℕ) (l : Row) (v : Value) (ds : Forest) → Recorded w m l v ds → LaidLabel t (l .label) → Keyed (l .label)
+    → rowIn true w t m ≡ l
+keyed-back w t m l v ds r h k = ap (λ (x : Label). record { label = x }) (go (l .label) (r .key-kind) (r .key-is) (r .key-length) h k)
+  where
+    go : (x : Label) → word w m keyKindWord ≡ getD (keyWords x) 0 0 → word w m keyWord ≡ getD (keyWords x) 1 0
+        → word w m keyLengthWord ≡ getD (keyWords x) 2 0 → LaidLabel t x → Keyed x → labelIn true w t m ≡ x
+    go unkeyed a b c h k = absurd k
+    go (intKey i) a b c h k = rw (a, b)
+    go (stringKey o x) a b c h k = rw (a, b, c) (ap (stringKey o) (lies-part h))
 
-no-entries : (g : ℕ) (w t : List ℕ) → entriesAt g w t 0 ≡ noEntries
-no-entries zero w t = refl
-no-entries (suc g) w t = refl
+bare-back : (w t : List ℕ) (m : ℕ) (l : Row) → Unkeyed (l .label) → rowIn false w t m ≡ l
+bare-back w t m l k = ap (λ (x : Label). record { label = x }) (go (l .label) k)
+  where
+    go : (x : Label) → Unkeyed x → unkeyed ≡ x
+    go unkeyed k = refl
+    go (intKey i) k = absurd k
+    go (stringKey o x) k = absurd k
 
-no-elements : (g : ℕ) (w t : List ℕ) → elementsAt g w t 0 ≡ noElements
-no-elements zero w t = refl
-no-elements (suc g) w t = refl
+no-children : (g : ℕ) (b : Bool) (w t : List ℕ) → forestFrom g b w t 0 ≡ none
+no-children zero b w t = refl
+no-children (suc g) b w t = refl
 
 values-some : (v : Value) → 1 ≤ values (plain v)
 values-some uninitialized = omega arith
@@ -91,46 +102,61 @@ values-some (string o x) = omega arith
 values-some (map cs) = omega arith
 values-some (sequence cs) = omega arith
 
-mutual
-  value-back : (v : Value) (g : ℕ) (w t : List ℕ) (i : ℕ) (l : Label) (ds : Forest) → Row w i l v ds → Rows w v → Laid t v
-      → 2 * values (plain v) ≤ g + 1 → treeAt g w t i ≡ plain v
-  value-back uninitialized zero w t i l ds r h z q = refl
-  value-back uninitialized (suc g) w t i l ds r h z q = rw (r .w0)
-  value-back null zero w t i l ds r h z q = absurd (omega arith)
-  value-back null (suc g) w t i l ds r h z q = rw (r .w0)
-  value-back noValue zero w t i l ds r h z q = absurd (omega arith)
-  value-back noValue (suc g) w t i l ds r h z q = rw (r .w0)
-  value-back (string o x) zero w t i l ds r h z q = absurd (omega arith)
-  value-back (string o x) (suc g) w t i l ds r h z q = rw (r .w0, r .w4, r .w5) (ap Tree.string (lies-part z))
-  value-back (map cs) zero w t i l ds r h z q = absurd (omega arith)
-  value-back (map cs) (suc g) w t i l ds r h z q = rw (r .w0, r .w6) (ap Tree.map (entries-back cs g w t h z (omega arith)))
-  value-back (sequence cs) zero w t i l ds r h z q = absurd (omega arith)
-  value-back (sequence cs) (suc g) w t i l ds r h z q = rw (r .w0, r .w6) (ap Tree.sequence (elements-back cs g w t h z (omega arith)))
+single-shaped : {v : Value} → SingleValue v → Shaped v
+single-shaped isNull = tt
+single-shaped isNoValue = tt
+single-shaped isString = tt
 
-  entries-back : (cs : Forest) (g : ℕ) (w t : List ℕ) → RowsAll w cs → LaidAll t cs → 2 * entryValues (entries cs) ≤ g → entriesAt g w t (first cs) ≡ entries cs
-  entries-back none g w t h z q = no-entries g w t
-  entries-back (child m l v cs) zero w t h z q = absurd (omega (arith, values-some v))
-  entries-back (child m l v cs) (suc g) w t h z q =
+mutual
+  value-back : (v : Value) (g : ℕ) (w t : List ℕ) (i : ℕ) (l : Row) (ds : Forest) → Recorded w i l v ds → Rows w v → Laid t v → Shaped v
+      → 2 * values (plain v) ≤ g + 1 → valueFrom g w t i ≡ v
+  value-back uninitialized zero w t i l ds r h z s q = refl
+  value-back uninitialized (suc g) w t i l ds r h z s q = rw (r .kind-is)
+  value-back null zero w t i l ds r h z s q = absurd (omega arith)
+  value-back null (suc g) w t i l ds r h z s q = rw (r .kind-is)
+  value-back noValue zero w t i l ds r h z s q = absurd (omega arith)
+  value-back noValue (suc g) w t i l ds r h z s q = rw (r .kind-is)
+  value-back (string o x) zero w t i l ds r h z s q = absurd (omega arith)
+  value-back (string o x) (suc g) w t i l ds r h z s q = rw (r .kind-is, r .text-is, r .text-length) (ap (string o) (lies-part z))
+  value-back (map cs) zero w t i l ds r h z s q = absurd (omega arith)
+  value-back (map cs) (suc g) w t i l ds r h z s q = rw (r .kind-is, r .child-is) (ap map (map-back cs g w t h z s (omega arith)))
+  value-back (sequence cs) zero w t i l ds r h z s q = absurd (omega arith)
+  value-back (sequence cs) (suc g) w t i l ds r h z s q = rw (r .kind-is, r .child-is) (ap sequence (sequence-back cs g w t h z s (omega arith)))
+
+  map-back : (cs : Forest) (g : ℕ) (w t : List ℕ) → RowsAll w cs → LaidAll t cs → ShapedMap cs → 2 * entryValues (entries cs) ≤ g
+      → forestFrom g true w t (first cs) ≡ cs
+  map-back none g w t h z s q = no-children g true w t
+  map-back (child m l v cs) zero w t h z s q = absurd (omega (arith, values-some v))
+  map-back (child m l v cs) (suc g) w t h z s q =
       rw (
         ne-eqb m 0 (h .1),
-        h .0 .w7,
-        key-back w t m l v cs (h .0) (z .0),
-        value-back v g w t m l cs (h .0) (h .2) (z .1) (omega arith),
-        entries-back
-            cs g w t (h .3) (z .2) (omega (arith, values-some v)),
+        keyed-back w t m l v cs (h .0) (z .0) (s .0),
+        h .0 .next-is,
+        value-back v g w t m l cs (h .0) (h .2) (z .1) (s .2) (omega arith),
+        map-back cs g w t (h .3) (z .2) (s .3) (omega (arith, values-some v)),
       )
 
-  elements-back : (cs : Forest) (g : ℕ) (w t : List ℕ) → RowsAll w cs → LaidAll t cs → 2 * elementValues (elements cs) ≤ g → elementsAt g w t (first cs) ≡ elements cs
-  elements-back none g w t h z q = no-elements g w t
-  elements-back (child m l v cs) zero w t h z q = absurd (omega (arith, values-some v))
-  elements-back (child m l v cs) (suc g) w t h z q =
-      rw (ne-eqb m 0 (h .1), h .0 .w7, value-back v g w t m l cs (h .0) (h .2) (z .1) (omega arith), elements-back cs g w t (h .3) (z .2) (omega (arith, values-some v)))
+  sequence-back : (cs : Forest) (g : ℕ) (w t : List ℕ) → RowsAll w cs → LaidAll t cs → ShapedSequence cs → 2 * elementValues (elements cs) ≤ g
+      → forestFrom g false w t (first cs) ≡ cs
+  sequence-back none g w t h z s q = no-children g false w t
+  sequence-back (child m l v cs) zero w t h z s q = absurd (omega (arith, values-some v))
+  sequence-back (child m l v cs) (suc g) w t h z s q =
+      rw (
+        ne-eqb m 0 (h .1),
+        bare-back w t m l (s .0),
+        h .0 .next-is,
+        value-back v g w t m l cs (h .0) (h .2) (z .1) (single-shaped (s .1)) (omega arith),
+        sequence-back cs g w t (h .3) (z .2) (s .2) (omega (arith, values-some v)),
+      )
 
 -- The records stand at their numbers.
-pub record-length : (l : Label) (v : Value) (ds : Forest) → length (recordWords l v ds) ≡ recordWidth
-record-length unkeyed v ds = refl
-record-length (intKey a) v ds = refl
-record-length (stringKey o x) v ds = refl
+pub record-length : (l : Row) (v : Value) (ds : Forest) → length (recordWords l v ds) ≡ recordWidth
+record-length l v ds = go (l .label)
+  where
+    go : (x : Label) → length (recordWords (record { label = x }) v ds) ≡ recordWidth
+    go unkeyed = refl
+    go (intKey a) = refl
+    go (stringKey o x) = refl
 
 mutual
   below-length : (v : Value) (i : ℕ) (d : List ℕ) → length d ≡ recordWidth → length (recordBelow i v d) ≡ recordWidth
@@ -200,9 +226,9 @@ FindsAll w cs d = (i : ℕ) → 1 ≤ countAll i cs → (j : ℕ) → j < record
 tally-same : (m : ℕ) → tally (eqb m m) ≡ 1
 tally-same m = rw (eq-eqb m m refl)
 
-module _ (w : List ℕ) (m : ℕ) (l : Label) (v : Value) (cs : Forest) (d : ℕ → List ℕ) (f : FindsAll w (child m l v cs) d) where
-  first-row : Row w m l v cs
-  first-row = row w m l v cs (λ j h. rw (eq-eqb m m refl) at (f m (omega (arith, tally-same m)) j h))
+module _ (w : List ℕ) (m : ℕ) (l : Row) (v : Value) (cs : Forest) (d : ℕ → List ℕ) (f : FindsAll w (child m l v cs) d) where
+  first-row : Recorded w m l v cs
+  first-row = recorded w m l v cs (λ j h. rw (eq-eqb m m refl) at (f m (omega (arith, tally-same m)) j h))
 
   module _ (once : (i : ℕ) → countAll i (child m l v cs) ≤ 1) where
     finds-below : Finds w v (λ i. recordAmong i cs (d i))
@@ -248,26 +274,37 @@ below-one i n = go (ltb i n)
     go false = omega arith
 
 -- The words of a tree hold the record of each of its values, with anything behind them.
-module _ (v : Value) (n : ℕ) (t zs : List ℕ) (h : Held v n t) where
-  finds : FindsAll (layout n v ++ zs) (child 0 unkeyed v none) (λ i. blank)
-  unfolding word
+module _ (n : Node) (u : Used) (zs : List ℕ) (h : Held n u) where
+  ws : List ℕ
+  ws = layout (u .records) n ++ zs
+
+  finds : FindsAll ws (rooted n) (λ i. blank)
+  unfolding word ws
   finds i c j k =
-      let m : i < n = below-lt i n (omega (arith, h .numbers i)) in
+      let m : i < u .records = below-lt i (u .records) (omega (arith, h .numbers i)) in
       let e : 0 + i ≡ i = omega arith in
-      List·getD-append (layout n v) zs 0 (i * recordWidth + j) (omega (arith, records-length n 0 (child 0 unkeyed v none))) ∙ records-at n 0 i j (child 0 unkeyed v none) m k
-      ∙ ap (λ (r : ℕ). getD (recordAmong r (child 0 unkeyed v none) blank) j 0) e
+      List·getD-append (layout (u .records) n) zs 0 (i * recordWidth + j) (omega (arith, records-length (u .records) 0 (rooted n)))
+      ∙ records-at (u .records) 0 i j (rooted n) m k
+      ∙ ap (λ (r : ℕ). getD (recordAmong r (rooted n) blank) j 0) e
 
-  pub root-row : Row (layout n v ++ zs) 0 unkeyed v none
-  root-row = first-row (layout n v ++ zs) 0 unkeyed v none (λ i. blank) finds
+  pub root-row : Recorded (layout (u .records) n ++ zs) 0 (n .row) (n .value) none
+  unfolding ws
+  root-row = first-row ws 0 (n .row) (n .value) none (λ i. blank) finds
 
-  pub layout-rows : Rows (layout n v ++ zs) v
+  pub layout-rows : Rows (layout (u .records) n ++ zs) (n .value)
+  unfolding ws
   layout-rows =
-      rows v (layout n v ++ zs) (λ i. recordAmong i none blank) (λ i. omega (arith, h .numbers i, below-one i n)) (omega (arith, h .numbers 0, below-one 0 n))
-      (finds-below (layout n v ++ zs) 0 unkeyed v none (λ i. blank) finds (λ i. omega (arith, h .numbers i, below-one i n)))
+      rows (n .value) ws (λ i. recordAmong i none blank) (λ i. omega (arith, h .numbers i, below-one i (u .records)))
+      (omega (arith, h .numbers 0, below-one 0 (u .records)))
+      (finds-below ws 0 (n .row) (n .value) none (λ i. blank) finds (λ i. omega (arith, h .numbers i, below-one i (u .records))))
 
 -- Read back, with any text behind the tree's.
-pub held-back : (v : Value) (n : ℕ) (t zs y : List ℕ) → Held v n t → treeIn (layout n v ++ zs) (t ++ y) ≡ plain v
-held-back v n t zs y h =
-    value-back v (length (layout n v ++ zs)) (layout n v ++ zs) (t ++ y) 0 unkeyed none (root-row v n t zs h) (layout-rows v n t zs h)
-    (laid-more t y v (h .texts))
-    (omega (arith, length-append (layout n v) zs, records-length n 0 (child 0 unkeyed v none), h .sizes))
+pub held-back : (n : Node) (u : Used) (zs y : List ℕ) → Held n u → n .row .label ≡ unkeyed → Shaped (n .value)
+    → nodeIn (layout (u .records) n ++ zs) (u .text ++ y) ≡ n
+held-back n u zs y h b s =
+    let ws = layout (u .records) n ++ zs in
+    let v = value-back (n .value) (length ws) ws (u .text ++ y) 0 (n .row) none (root-row n u zs h) (layout-rows n u zs h)
+    (laid-more (u .text) y (n .value) (h .texts)) s
+    (omega (arith, length-append (layout (u .records) n) zs, records-length (u .records) 0 (rooted n), h .sizes)) in
+    let r = bare-back ws (u .text ++ y) 0 (n .row) (rw b tt) in
+    rw (r, v)

@@ -1,4 +1,4 @@
--- With more lent nothing changes but a refusal for space.
+-- With more env nothing changes but a refusal for space.
 use Prim.Native.Nat.{ℕ, _+_, _≤_, Ordering, Ordering·lt, Ordering·eq, Ordering·gt}
 use mathlib.Core.Path.{_≡_, refl, sym}
 use mathlib.Core.Bool.{Bool, true, false, cond}
@@ -9,15 +9,16 @@ use lib.Dec.{ltb}
 use lib.ListN.{length}
 use Rattle.laws.proofs.Cases.{true-false}
 use Rattle.key.specs.Keys.{Key, str}
-use Rattle.reading.specs.Values.{unkeyed, labelKey, Value, uninitialized, null, noValue, string, map, sequence, Forest, none, child}
+use Rattle.reading.specs.Values.{Row, rowKey, Value, uninitialized, null, noValue, string, map, sequence, Forest, none, child, Node, at}
 use Rattle.reading.specs.Leaves.{Leaf}
 use Rattle.refusals.specs.declared.Refusal.{Refusal}
 use Rattle.refusals.specs.declared.Refusal.the-variants.{TooFewRecords, TooLittleText}
 use Rattle.key.specs.KeyOrder.{compareKeys, choose}
-use Rattle.reading.specs.Charging.{Lent, Made, made, refused, Rule, over, bind, charge}
-use Rattle.reading.specs.Adding.{expectMap, expectSequence, keyText, leafText, labelAt, valueAt, insertNew, enterNew, sequenceOfTwo, snoc, push, appendValue, appendEmptyKey, atEntry, insertUnique, unchanged, enterKey, noPath, atPath}
+use Rattle.reading.specs.Charging.{Lent, Environment, Used, more, Made, made, refused, Rule, NodeRule, over, bind, charge}
+use Rattle.reading.specs.Adding.{mapAt, sequenceAt, expectMap, expectSequence, keyText, leafText, valueAt, insertNew, enterNew, sequenceOfTwo, snoc, push, appendValue, appendEmptyKey, atEntry, inMap, insertUnique, unchanged, enterKey, pushLast, noPath, atPath}
 use Rattle.reading.specs.Scanning.{root, under, last, Command, skip, refuse, enter, needMap, needSequence, add}
 use Rattle.reading.specs.Running.{perform}
+use Rattle.reading.proofs.Changes.{element, two, newChild, newEntry}
 
 -- Refusals 14 and 15.
 pub data ForSpace : Refusal → Type 0 where
@@ -29,16 +30,16 @@ pub data Spared {A : Type 0} : Made A → Made A → Type 0 where
   alike : {r : Made A} → Spared r r
   scarce : {x : Refusal} {r : Made A} → ForSpace x → Spared (refused x) r
 
-pub record More (lent more : Lent) : Type 0 where
-  pub records : lent .records ≤ more .records
-  pub bytes : lent .bytes ≤ more .bytes
+pub record More (lent ample : Lent) : Type 0 where
+  pub records : lent .records ≤ ample .records
+  pub bytes : lent .bytes ≤ ample .bytes
 
 spared-over : {A B : Type 0} (f : A → B) {r s : Made A} → Spared r s → Spared (over f r) (over f s)
 spared-over f alike = alike
 spared-over f (scarce x) = scarce x
 
-spared-bind : {A B : Type 0} (f g : A → ℕ → List ℕ → Made B) → ((a : A) (n : ℕ) (t : List ℕ) → Spared (f a n t) (g a n t)) → (r : Made A) → Spared (bind r f) (bind r g)
-spared-bind f g h (made a n t) = h a n t
+spared-bind : {A B : Type 0} (f g : A → Used → Made B) → ((a : A) (u : Used) → Spared (f a u) (g a u)) → (r : Made A) → Spared (bind r f) (bind r g)
+spared-bind f g h (made a u) = h a u
 spared-bind f g h (refused x) = alike
 
 spared-choose : {A : Type 0} (o : Ordering) {a b c a′ b′ c′ : Made A} → Spared a a′ → Spared b b′ → Spared c c′ → Spared (choose o a b c) (choose o a′ b′ c′)
@@ -57,80 +58,81 @@ tests false false false false r f g = alike
 less : (a b c : ℕ) → a ≤ b → ltb b c ≡ true → ltb a c ≡ true
 less a b c h e = lt-ltb a c (omega (arith, ltb-true b c e))
 
-module _ (lent more : Lent) (big : More lent more) where
-  charge-spared : {A : Type 0} (k : ℕ) (x : List ℕ) (a : A) (n : ℕ) (t : List ℕ) → Spared (charge lent k x a n t) (charge more k x a n t)
-  charge-spared k x a n t =
-      tests (ltb (lent .records) (n + k)) (ltb (lent .bytes) (length t + length x)) (ltb (more .records) (n + k)) (ltb (more .bytes) (length t + length x))
-      (made a (n + k) (t ++ x)) (less (lent .records) (more .records) (n + k) (big .records)) (less (lent .bytes) (more .bytes) (length t + length x) (big .bytes))
+module _ (env large : Environment) (big : More (env .lent) (large .lent)) where
+  charge-spared : {A : Type 0} (k : ℕ) (x : List ℕ) (a : A) (u : Used) → Spared (charge env k x a u) (charge large k x a u)
+  charge-spared k x a u =
+      let n = u .records + k in
+      let b = length (u .text) + length x in
+      tests (ltb (env .lent .records) n) (ltb (env .lent .bytes) b) (ltb (large .lent .records) n) (ltb (large .lent .bytes) b)
+      (made a (more u k x)) (less (env .lent .records) (large .lent .records) n (big .records)) (less (env .lent .bytes) (large .lent .bytes) b (big .bytes))
 
-  insert-new-spared : (k : Key) (x : Leaf) (cs : Forest) (n : ℕ) (t : List ℕ) → Spared (insertNew lent k x cs n t) (insertNew more k x cs n t)
-  insert-new-spared k x cs n t =
-      charge-spared 1 (keyText k ++ leafText x) (child n (labelAt k (length t)) (valueAt x (length t + length (keyText k))) cs) n t
+  insert-new-spared : (k : Key) (x : Leaf) (cs : Forest) (u : Used) → Spared (insertNew env k x cs u) (insertNew large k x cs u)
+  insert-new-spared k x cs u = charge-spared 1 (keyText k ++ leafText x) (newChild k x cs u) u
 
-  enter-new-spared : (k : Key) (cs : Forest) (n : ℕ) (t : List ℕ) → Spared (enterNew lent k cs n t) (enterNew more k cs n t)
-  enter-new-spared k cs n t = charge-spared 1 (keyText k) (child n (labelAt k (length t)) uninitialized cs) n t
+  enter-new-spared : (k : Key) (cs : Forest) (u : Used) → Spared (enterNew env k cs u) (enterNew large k cs u)
+  enter-new-spared k cs u = charge-spared 1 (keyText k) (newEntry k cs u) u
 
-  pair-spared : (x : Leaf) (v : Value) (n : ℕ) (t : List ℕ) → Spared (sequenceOfTwo lent x v n t) (sequenceOfTwo more x v n t)
-  pair-spared x v n t = charge-spared 2 (leafText x) (sequence (child n unkeyed v (child (n + 1) unkeyed (valueAt x (length t)) none))) n t
+  pair-spared : (x : Leaf) (l : Row) (v : Value) (u : Used) → Spared (sequenceOfTwo env x l v u) (sequenceOfTwo large x l v u)
+  pair-spared x l v u = charge-spared 2 (leafText x) (sequenceAt l (two x v u)) u
 
-  push-spared : (x : Leaf) (cs : Forest) (n : ℕ) (t : List ℕ) → Spared (push lent x cs n t) (push more x cs n t)
-  push-spared x cs n t = charge-spared 1 (leafText x) (sequence (snoc cs (child n unkeyed (valueAt x (length t)) none))) n t
+  push-spared : (x : Leaf) (l : Row) (cs : Forest) (u : Used) → Spared (push env x l cs u) (push large x l cs u)
+  push-spared x l cs u = charge-spared 1 (leafText x) (sequenceAt l (snoc cs (element x u))) u
 
   mutual
-    append-spared : (x : Leaf) (v : Value) (n : ℕ) (t : List ℕ) → Spared (appendValue lent x v n t) (appendValue more x v n t)
-    append-spared x uninitialized n t = charge-spared 0 (leafText x) (valueAt x (length t)) n t
-    append-spared x null n t = pair-spared x null n t
-    append-spared x noValue n t = pair-spared x noValue n t
-    append-spared x (string o y) n t = pair-spared x (string o y) n t
-    append-spared x (map cs) n t = spared-over map (append-empty-spared x cs n t)
-    append-spared x (sequence cs) n t = push-spared x cs n t
+    append-spared : (x : Leaf) (l : Row) (v : Value) (u : Used) → Spared (appendValue env x l v u) (appendValue large x l v u)
+    append-spared x l uninitialized u = charge-spared 0 (leafText x) (at l (valueAt x (length (u .text)))) u
+    append-spared x l null u = pair-spared x l null u
+    append-spared x l noValue u = pair-spared x l noValue u
+    append-spared x l (string o y) u = pair-spared x l (string o y) u
+    append-spared x l (map cs) u = spared-over (mapAt l) (append-empty-spared x cs u)
+    append-spared x l (sequence cs) u = push-spared x l cs u
 
-    append-empty-spared : (x : Leaf) (cs : Forest) (n : ℕ) (t : List ℕ) → Spared (appendEmptyKey lent x cs n t) (appendEmptyKey more x cs n t)
-    append-empty-spared x none n t = insert-new-spared (str []) x none n t
-    append-empty-spared x (child m l v cs) n t =
-        spared-choose (compareKeys (str []) (labelKey l)) (insert-new-spared (str []) x (child m l v cs) n t)
-        (spared-over (λ w. child m l w cs) (append-spared x v n t)) (spared-over (child m l v) (append-empty-spared x cs n t))
+    append-empty-spared : (x : Leaf) (cs : Forest) (u : Used) → Spared (appendEmptyKey env x cs u) (appendEmptyKey large x cs u)
+    append-empty-spared x none u = insert-new-spared (str []) x none u
+    append-empty-spared x (child m l v cs) u =
+        spared-choose (compareKeys (str []) (rowKey l)) (insert-new-spared (str []) x (child m l v cs) u)
+        (spared-over (λ w. child m (w .row) (w .value) cs) (append-spared x l v u)) (spared-over (child m l v) (append-empty-spared x cs u))
 
-  at-entry-spared : (k : Key) (old old′ : Rule Value) (new new′ : Rule Forest)
-      → ((v : Value) (n : ℕ) (t : List ℕ) → Spared (old v n t) (old′ v n t)) → ((cs : Forest) (n : ℕ) (t : List ℕ) → Spared (new cs n t) (new′ cs n t))
-      → (cs : Forest) (n : ℕ) (t : List ℕ) → Spared (atEntry k old new cs n t) (atEntry k old′ new′ cs n t)
-  at-entry-spared k old old′ new new′ f g none n t = g none n t
-  at-entry-spared k old old′ new new′ f g (child m l v cs) n t =
-      spared-choose (compareKeys k (labelKey l)) (g (child m l v cs) n t) (spared-over (λ w. child m l w cs) (f v n t))
-      (spared-over (child m l v) (at-entry-spared k old old′ new new′ f g cs n t))
+  abbrev Spares : NodeRule → NodeRule → Type 0
+  Spares f g = (l : Row) (v : Value) (u : Used) → Spared (f l v u) (g l v u)
 
-  at-path-spared : (ks : List Key) (f g : Rule Value) → ((v : Value) (n : ℕ) (t : List ℕ) → Spared (f v n t) (g v n t))
-      → (v : Value) (n : ℕ) (t : List ℕ) → Spared (atPath ks f v n t) (atPath ks g v n t)
-  at-path-spared [] f g h v n t = h v n t
-  at-path-spared (k ∷ ks) f g h uninitialized n t = alike
-  at-path-spared (k ∷ ks) f g h null n t = alike
-  at-path-spared (k ∷ ks) f g h noValue n t = alike
-  at-path-spared (k ∷ ks) f g h (string o x) n t = alike
-  at-path-spared (k ∷ ks) f g h (sequence cs) n t = alike
-  at-path-spared (k ∷ ks) f g h (map cs) n t =
-      spared-over map (at-entry-spared k (atPath ks f) (atPath ks g) noPath noPath (at-path-spared ks f g h) (λ ds i u. alike) cs n t)
+  at-entry-spared : (k : Key) (old old′ : NodeRule) (new new′ : Rule Forest) → Spares old old′ → ((cs : Forest) (u : Used) → Spared (new cs u) (new′ cs u))
+      → (cs : Forest) (u : Used) → Spared (atEntry k old new cs u) (atEntry k old′ new′ cs u)
+  at-entry-spared k old old′ new new′ f g none u = g none u
+  at-entry-spared k old old′ new new′ f g (child m l v cs) u =
+      spared-choose (compareKeys k (rowKey l)) (g (child m l v cs) u) (spared-over (λ w. child m (w .row) (w .value) cs) (f l v u))
+      (spared-over (child m l v) (at-entry-spared k old old′ new new′ f g cs u))
+
+  at-path-spared : (ks : List Key) (f g : NodeRule) → Spares f g → Spares (atPath ks f) (atPath ks g)
+  at-path-spared [] f g h l v u = h l v u
+  at-path-spared (k ∷ ks) f g h l uninitialized u = alike
+  at-path-spared (k ∷ ks) f g h l null u = alike
+  at-path-spared (k ∷ ks) f g h l noValue u = alike
+  at-path-spared (k ∷ ks) f g h l (string o x) u = alike
+  at-path-spared (k ∷ ks) f g h l (sequence cs) u = alike
+  at-path-spared (k ∷ ks) f g h l (map cs) u =
+      spared-over (mapAt l) (at-entry-spared k (atPath ks f) (atPath ks g) noPath noPath (at-path-spared ks f g h) (λ ds w. alike) cs u)
 
   -- A rule at an entry of the map that is needed here.
-  map-spared : (k : Key) (old old′ : Rule Value) (new new′ : Rule Forest)
-      → ((v : Value) (n : ℕ) (t : List ℕ) → Spared (old v n t) (old′ v n t)) → ((cs : Forest) (n : ℕ) (t : List ℕ) → Spared (new cs n t) (new′ cs n t))
-      → (v : Value) (n : ℕ) (t : List ℕ)
-      → Spared (bind (expectMap v n t) (λ cs i u. over map (atEntry k old new cs i u))) (bind (expectMap v n t) (λ cs i u. over map (atEntry k old′ new′ cs i u)))
-  map-spared k old old′ new new′ f g v n t =
-      spared-bind (λ cs i u. over map (atEntry k old new cs i u)) (λ cs i u. over map (atEntry k old′ new′ cs i u))
-      (λ cs i u. spared-over map (at-entry-spared k old old′ new new′ f g cs i u)) (expectMap v n t)
+  map-spared : (k : Key) (old old′ : NodeRule) (new new′ : Rule Forest) → Spares old old′ → ((cs : Forest) (u : Used) → Spared (new cs u) (new′ cs u))
+      → Spares (inMap k old new) (inMap k old′ new′)
+  map-spared k old old′ new new′ f g l v u =
+      spared-bind (λ cs w. over (mapAt l) (atEntry k old new cs w)) (λ cs w. over (mapAt l) (atEntry k old′ new′ cs w))
+      (λ cs w. spared-over (mapAt l) (at-entry-spared k old old′ new new′ f g cs w)) (expectMap v u)
 
-  pub perform-spared : (c : Command) (v : Value) (n : ℕ) (t : List ℕ) → Spared (perform lent c v n t) (perform more c v n t)
-  perform-spared skip v n t = alike
-  perform-spared (refuse x) v n t = alike
-  perform-spared (enter path key) v n t =
-      at-path-spared path (enterKey lent key) (enterKey more key)
-      (map-spared key unchanged unchanged (enterNew lent key) (enterNew more key) (λ w i u. alike) (enter-new-spared key)) v n t
-  perform-spared (needMap path) v n t = alike
-  perform-spared (needSequence path) v n t = alike
-  perform-spared (add root x) v n t = append-spared x v n t
-  perform-spared (add (under path key) x) v n t =
-      at-path-spared path (insertUnique lent key x) (insertUnique more key x)
-      (map-spared key (appendValue lent x) (appendValue more x) (insertNew lent key x) (insertNew more key x) (append-spared x) (insert-new-spared key x)) v n t
-  perform-spared (add (last path) x) v n t =
-      at-path-spared path (λ w i u. bind (expectSequence w i u) (push lent x)) (λ w i u. bind (expectSequence w i u) (push more x))
-      (λ w i u. spared-bind (push lent x) (push more x) (push-spared x) (expectSequence w i u)) v n t
+  pub perform-spared : (c : Command) (n : Node) (u : Used) → Spared (perform env c n u) (perform large c n u)
+  perform-spared skip n u = alike
+  perform-spared (refuse x) n u = alike
+  perform-spared (enter path key) n u =
+      at-path-spared path (enterKey env key) (enterKey large key)
+      (map-spared key unchanged unchanged (enterNew env key) (enterNew large key) (λ l v w. alike) (enter-new-spared key)) (n .row) (n .value) u
+  perform-spared (needMap path) n u = alike
+  perform-spared (needSequence path) n u = alike
+  perform-spared (add root x) n u = append-spared x (n .row) (n .value) u
+  perform-spared (add (under path key) x) n u =
+      at-path-spared path (insertUnique env key x) (insertUnique large key x)
+      (map-spared key (appendValue env x) (appendValue large x) (insertNew env key x) (insertNew large key x) (append-spared x) (insert-new-spared key x))
+      (n .row) (n .value) u
+  perform-spared (add (last path) x) n u =
+      at-path-spared path (pushLast env x) (pushLast large x)
+      (λ l v w. spared-bind (push env x l) (push large x l) (push-spared x l) (expectSequence v w)) (n .row) (n .value) u

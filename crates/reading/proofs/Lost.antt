@@ -14,7 +14,7 @@ use Rattle.key.specs.Keys.{Key, str, allDigits, valueFrom}
 use Rattle.key.specs.KeyOrder.{compareBytes, compareKeys}
 use Rattle.key.proofs.KeyOrders.{keys-same}
 use Rattle.reading.specs.Trees.{Tree, uninitialized, null, noValue, string, map, sequence, Entries, noEntries, entry, Elements, noElements, element}
-use Rattle.reading.specs.Reading.{reading}
+use Rattle.reading.specs.Reading.{read}
 use Rattle.reading.specs.Keeping.{isString, isNull, isNoValue, StartsWith, noMore, sameFirst, Has, here, further, Keeps, equal, firstElement, bothSequences, bothMaps, KeepsEach, noKeys, alsoKey, KeepsTree, undecidedRoot, rootKept}
 use Rattle.reading.specs.Lost.{readOf, treeOf, lost, EachLost, LostAll}
 
@@ -164,7 +164,7 @@ each-lost ((w, v) ∷ more) e =
     )
 
 all-pass : testsPass lost ≡ true
-unfolding reading flatten decoded digitOf allDigits valueFrom word
+unfolding read flatten decoded digitOf allDigits valueFrom word
 all-pass = refl
 
 pub lost-all : LostAll

@@ -8,14 +8,14 @@ use lib.Dec.{T, leb, ltb, eqb}
 use lib.ListN.{length}
 use Rattle.config.specs.declared.Config.{Config}
 use Rattle.key.specs.Keys.{Key, keyOf}
-use Rattle.reading.specs.Values.{unkeyed, labelKey, Value, uninitialized, null, noValue, string, map, sequence, Forest, none, child}
+use Rattle.reading.specs.Values.{Row, rowKey, Value, uninitialized, null, noValue, string, map, sequence, Forest, none, child, Node, at}
 use Rattle.reading.specs.Leaves.{Leaf, valueOf}
 use Rattle.refusals.specs.declared.Refusal.{Refusal}
 use Rattle.refusals.specs.declared.Refusal.the-variants.{NoSuchField}
 use Rattle.refusals.specs.Codes.{code}
 use Rattle.key.specs.KeyOrder.{compareKeys, choose}
-use Rattle.reading.specs.Charging.{Lent, Made, made, refused, Rule, over, bind}
-use Rattle.reading.specs.Adding.{expectMap, expectSequence, keyText, leafText, labelAt, valueAt, enterNew, snoc, push, atEntry, insertUnique, unchanged, enterKey, noPath, atPath}
+use Rattle.reading.specs.Charging.{Environment, Used, Made, made, refused, NodeRule, over}
+use Rattle.reading.specs.Adding.{mapAt, sequenceAt, becomeMap, becomeSequence, keyText, leafText, valueAt, enterNew, snoc, atEntry, insertUnique, unchanged, enterKey, pushLast, noPath, atPath}
 use Rattle.reading.specs.Taking.{Symbol, ampersand, equals, opening, closing, other, Token}
 use Rattle.reading.specs.Scanning.{Target, root, under, last, Command, skip, needMap, add, Mode, rootKey, value, bracket, keyBelowDepth, keyAtDepth, afterKey, afterBrackets, _then_, finish, step}
 use Rattle.reading.specs.Running.{perform, run}
@@ -23,6 +23,7 @@ use Rattle.reading.specs.Shape.{Decided, DecidedAll, DecidedBelow}
 use Rattle.reading.specs.Covering.{Gives, gives, refuses}
 use Rattle.reading.proofs.Results.{gives-over, gives-weaken, gives-charge}
 use Rattle.reading.proofs.Rules.{Unfit, onMap, onSingle, onSequence, onString, onNull, Adding, append-obeys, insert-obeys, push-obeys}
+use Rattle.reading.proofs.Changes.{element, two, newChild, newEntry}
 use Rattle.reading.proofs.Labels.{compare-label}
 use Rattle.reading.proofs.Runs.{Ends, run-ends}
 
@@ -30,8 +31,17 @@ use Rattle.reading.proofs.Runs.{Ends, run-ends}
 abbrev pub Numbered : Refusal → Type 0
 Numbered x = T (leb 4 (code x) && leb (code x) 15)
 
-abbrev Becomes : {A : Type 0} → (A → Type 0) → Made A → Type 0
-Becomes S r = Gives (λ a n t. S a) Numbered r
+-- Children of which S holds are made, or it is refused by one of these.
+abbrev Becomes : (Forest → Type 0) → Made Forest → Type 0
+Becomes S r = Gives (λ cs u. S cs) Numbered r
+
+-- A record whose value has S is made, with the key that the row has.
+abbrev BecomesAt : Row → (Value → Type 0) → Made Node → Type 0
+BecomesAt l S r = Gives (λ n u. (n .row .label ≡ l .label) × S (n .value)) Numbered r
+
+-- A tree whose root has S is made.
+abbrev Roots : (Value → Type 0) → Made Node → Type 0
+Roots S r = Gives (λ n u. S (n .value)) Numbered r
 
 decided-below : (v : Value) → Decided v → DecidedBelow v
 decided-below uninitialized h = tt
@@ -54,26 +64,26 @@ unfit-numbered onSequence = tt
 unfit-numbered onString = tt
 unfit-numbered onNull = tt
 
-adding : (lent : Lent) (x : Leaf) → Adding lent x (λ k. Unit) (λ v n t r. DecidedBelow v → Becomes Decided r) (λ k cs n t r. DecidedAll cs → Becomes DecidedAll r)
-adding lent x =
+adding : (env : Environment) (x : Leaf)
+    → Adding env x (λ k. Unit) (λ l v u r. DecidedBelow v → BecomesAt l Decided r) (λ k cs u r. DecidedAll cs → Becomes DecidedAll r)
+adding env x =
     record {
       passes = record {
-        here = λ k m l v cs n t r e f h. gives-over (λ w. child m l w cs) (λ w i u d. (d, h .1)) (f (decided-below v (h .0)));
-        later = λ k m l v cs n t r e f h. gives-over (child m l v) (λ ds i u d. (h .0, d)) (f (h .1));
-        inMap = λ k cs n t r f h. gives-over map (λ ds i u d. d) (f h);
-        toMap = λ k n t r f h. gives-over map (λ ds i u d. d) (f tt);
-        unfit = λ v n t u h. refuses (unfit-numbered u);
+        here = λ k m l v cs u r e f h. gives-over (λ w. child m (w .row) (w .value) cs) (λ w u′ d. (d .1, h .1)) (f (decided-below v (h .0)));
+        later = λ k m l v cs u r e f h. gives-over (child m l v) (λ ds u′ d. (h .0, d)) (f (h .1));
+        inMap = λ k l cs u r f h. gives-over (mapAt l) (λ ds u′ d. (refl, d)) (f h);
+        toMap = λ k l u r f h. gives-over (mapAt l) (λ ds u′ d. (refl, d)) (f tt);
+        unfit = λ l v u y h. refuses (unfit-numbered y);
       };
       emptyKey = tt;
-      inserted = λ k g cs n t e h.
-          gives-charge lent 1 (keyText k ++ leafText x) (child n (labelAt k (length t)) (valueAt x (length t + length (keyText k))) cs) n t (λ f. tt) (λ f. tt)
-          (λ f. (leaf-decided x (length t + length (keyText k)), h));
-      becomes = λ n t h. gives-charge lent 0 (leafText x) (valueAt x (length t)) n t (λ f. tt) (λ f. tt) (λ f. leaf-decided x (length t));
-      paired = λ v n t s h.
-          gives-charge lent 2 (leafText x) (sequence (child n unkeyed v (child (n + 1) unkeyed (valueAt x (length t)) none))) n t (λ f. tt) (λ f. tt) (λ f. tt);
-      pushed = λ cs n t h.
-          gives-charge lent 1 (leafText x) (sequence (snoc cs (child n unkeyed (valueAt x (length t)) none))) n t (λ f. tt) (λ f. tt) (λ f. tt);
-      pushedFirst = λ n t h. gives-charge lent 1 (leafText x) (sequence (child n unkeyed (valueAt x (length t)) none)) n t (λ f. tt) (λ f. tt) (λ f. tt);
+      inserted = λ k g cs u e h.
+          gives-charge env 1 (keyText k ++ leafText x) (newChild k x cs u) u (λ f. tt) (λ f. tt)
+          (λ f. (leaf-decided x (length (u .text) + length (keyText k)), h));
+      becomes = λ l u h.
+          gives-charge env 0 (leafText x) (at l (valueAt x (length (u .text)))) u (λ f. tt) (λ f. tt) (λ f. (refl, leaf-decided x (length (u .text))));
+      paired = λ l v u s h. gives-charge env 2 (leafText x) (sequenceAt l (two x v u)) u (λ f. tt) (λ f. tt) (λ f. (refl, tt));
+      pushed = λ l cs u h. gives-charge env 1 (leafText x) (sequenceAt l (snoc cs (element x u))) u (λ f. tt) (λ f. tt) (λ f. (refl, tt));
+      pushedFirst = λ l u h. gives-charge env 1 (leafText x) (sequenceAt l (element x u)) u (λ f. tt) (λ f. tt) (λ f. (refl, tt));
     }
 
 -- The keys lead to a value of which S holds, and all else is decided.
@@ -84,7 +94,7 @@ along Ordering·gt A B = B
 
 abbrev ReachAmong : Key → (Value → Type 0) → Forest → Type 0
 ReachAmong k S none = ⊥
-ReachAmong k S (child m l v cs) = along (compareKeys k (labelKey l)) (S v × DecidedAll cs) (Decided v × ReachAmong k S cs)
+ReachAmong k S (child m l v cs) = along (compareKeys k (rowKey l)) (S v × DecidedAll cs) (Decided v × ReachAmong k S cs)
 
 abbrev Reach : (Value → Type 0) → List Key → Value → Type 0
 Reach S [] v = S v
@@ -96,33 +106,34 @@ Reach S (k ∷ ks) (sequence cs) = ⊥
 Reach S (k ∷ ks) (map cs) = ReachAmong k (Reach S ks) cs
 
 -- A rule there changes what holds there.
-module _ (k : Key) (rule : Rule Value) (S U : Value → Type 0) (f : (v : Value) (n : ℕ) (t : List ℕ) → S v → Becomes U (rule v n t)) where
-  at-entry-reach : (cs : Forest) (n : ℕ) (t : List ℕ) → ReachAmong k S cs → Becomes (ReachAmong k U) (atEntry k rule noPath cs n t)
-  at-entry-reach none n t h = absurd h
-  at-entry-reach (child m l v cs) n t h = go (compareKeys k (labelKey l)) refl h (λ q. at-entry-reach cs n t q)
+module _ (k : Key) (rule : NodeRule) (S U : Value → Type 0) (f : (l : Row) (v : Value) (u : Used) → S v → BecomesAt l U (rule l v u)) where
+  at-entry-reach : (cs : Forest) (u : Used) → ReachAmong k S cs → Becomes (ReachAmong k U) (atEntry k rule noPath cs u)
+  at-entry-reach none u h = absurd h
+  at-entry-reach (child m l v cs) u h = go (compareKeys k (rowKey l)) refl h (λ q. at-entry-reach cs u q)
     where
-      go : (o : Ordering) → compareKeys k (labelKey l) ≡ o → along o (S v × DecidedAll cs) (Decided v × ReachAmong k S cs)
-          → (ReachAmong k S cs → Becomes (ReachAmong k U) (atEntry k rule noPath cs n t))
-          → Becomes (ReachAmong k U) (choose o (refused NoSuchField) (over (λ w. child m l w cs) (rule v n t)) (over (child m l v) (atEntry k rule noPath cs n t)))
+      go : (o : Ordering) → compareKeys k (rowKey l) ≡ o → along o (S v × DecidedAll cs) (Decided v × ReachAmong k S cs)
+          → (ReachAmong k S cs → Becomes (ReachAmong k U) (atEntry k rule noPath cs u))
+          → Becomes (ReachAmong k U)
+          (choose o (refused NoSuchField) (over (λ w. child m (w .row) (w .value) cs) (rule l v u)) (over (child m l v) (atEntry k rule noPath cs u)))
       go Ordering·lt e q further = absurd q
-      go Ordering·eq e q further = gives-over (λ w. child m l w cs) (λ w i u d. rw e (d, q .1)) (f v n t (q .0))
-      go Ordering·gt e q further = gives-over (child m l v) (λ ds i u d. rw e (q .0, d)) (further (q .1))
+      go Ordering·eq e q further = gives-over (λ w. child m (w .row) (w .value) cs) (λ w u′ d. rw (d .0, e) (d .1, q .1)) (f l v u (q .0))
+      go Ordering·gt e q further = gives-over (child m l v) (λ ds u′ d. rw e (q .0, d)) (further (q .1))
 
-at-path-reach : (S U : Value → Type 0) (ks : List Key) (rule : Rule Value) → ((v : Value) (n : ℕ) (t : List ℕ) → S v → Becomes U (rule v n t))
-    → (v : Value) (n : ℕ) (t : List ℕ) → Reach S ks v → Becomes (Reach U ks) (atPath ks rule v n t)
-at-path-reach S U [] rule f v n t h = f v n t h
-at-path-reach S U (k ∷ ks) rule f uninitialized n t h = absurd h
-at-path-reach S U (k ∷ ks) rule f null n t h = absurd h
-at-path-reach S U (k ∷ ks) rule f noValue n t h = absurd h
-at-path-reach S U (k ∷ ks) rule f (string o x) n t h = absurd h
-at-path-reach S U (k ∷ ks) rule f (sequence cs) n t h = absurd h
-at-path-reach S U (k ∷ ks) rule f (map cs) n t h =
-    gives-over map (λ ds i u d. d) (at-entry-reach k (atPath ks rule) (Reach S ks) (Reach U ks) (at-path-reach S U ks rule f) cs n t h)
+at-path-reach : (S U : Value → Type 0) (ks : List Key) (rule : NodeRule) → ((l : Row) (v : Value) (u : Used) → S v → BecomesAt l U (rule l v u))
+    → (l : Row) (v : Value) (u : Used) → Reach S ks v → BecomesAt l (Reach U ks) (atPath ks rule l v u)
+at-path-reach S U [] rule f l v u h = f l v u h
+at-path-reach S U (k ∷ ks) rule f l uninitialized u h = absurd h
+at-path-reach S U (k ∷ ks) rule f l null u h = absurd h
+at-path-reach S U (k ∷ ks) rule f l noValue u h = absurd h
+at-path-reach S U (k ∷ ks) rule f l (string o x) u h = absurd h
+at-path-reach S U (k ∷ ks) rule f l (sequence cs) u h = absurd h
+at-path-reach S U (k ∷ ks) rule f l (map cs) u h =
+    gives-over (mapAt l) (λ ds u′ d. (refl, d)) (at-entry-reach k (atPath ks rule) (Reach S ks) (Reach U ks) (at-path-reach S U ks rule f) cs u h)
 
 -- What the keys lead to may be weakened; where it is decided, all is.
 among-weaken : (k : Key) (S U : Value → Type 0) → ((v : Value) → S v → U v) → (cs : Forest) → ReachAmong k S cs → ReachAmong k U cs
 among-weaken k S U f none h = absurd h
-among-weaken k S U f (child m l v cs) h = go (compareKeys k (labelKey l)) h (λ q. among-weaken k S U f cs q)
+among-weaken k S U f (child m l v cs) h = go (compareKeys k (rowKey l)) h (λ q. among-weaken k S U f cs q)
   where
     go : (o : Ordering) → along o (S v × DecidedAll cs) (Decided v × ReachAmong k S cs) → (ReachAmong k S cs → ReachAmong k U cs)
         → along o (U v × DecidedAll cs) (Decided v × ReachAmong k U cs)
@@ -132,7 +143,7 @@ among-weaken k S U f (child m l v cs) h = go (compareKeys k (labelKey l)) h (λ 
 
 among-decided : (k : Key) (cs : Forest) → ReachAmong k Decided cs → DecidedAll cs
 among-decided k none h = absurd h
-among-decided k (child m l v cs) h = go (compareKeys k (labelKey l)) h (λ q. among-decided k cs q)
+among-decided k (child m l v cs) h = go (compareKeys k (rowKey l)) h (λ q. among-decided k cs q)
   where
     go : (o : Ordering) → along o (Decided v × DecidedAll cs) (Decided v × ReachAmong k Decided cs) → (ReachAmong k Decided cs → DecidedAll cs) → Decided v × DecidedAll cs
     go Ordering·lt q further = absurd q
@@ -159,46 +170,46 @@ reach-join S (k ∷ ks) js (sequence cs) h = absurd h
 reach-join S (k ∷ ks) js (map cs) h = among-weaken k (Reach (Reach S js) ks) (Reach S (ks ++ js)) (reach-join S ks js) cs h
 
 -- Entering a key leads to it.
-new-reach : (lent : Lent) (k : Key) (cs : Forest) (n : ℕ) (t : List ℕ) → DecidedAll cs → Becomes (ReachAmong k DecidedBelow) (enterNew lent k cs n t)
-new-reach lent k cs n t h =
-    gives-charge lent 1 (keyText k) (child n (labelAt k (length t)) uninitialized cs) n t (λ f. tt) (λ f. tt) (λ f. rw (compare-label k (length t)) (tt, h))
+new-reach : (env : Environment) (k : Key) (cs : Forest) (u : Used) → DecidedAll cs → Becomes (ReachAmong k DecidedBelow) (enterNew env k cs u)
+new-reach env k cs u h =
+    gives-charge env 1 (keyText k) (newEntry k cs u) u (λ f. tt) (λ f. tt) (λ f. rw (compare-label k (length (u .text))) (tt, h))
 
-enter-at-reach : (lent : Lent) (k : Key) (cs : Forest) (n : ℕ) (t : List ℕ) → DecidedAll cs
-    → Becomes (ReachAmong k DecidedBelow) (atEntry k unchanged (enterNew lent k) cs n t)
-enter-at-reach lent k none n t h = new-reach lent k none n t h
-enter-at-reach lent k (child m l v cs) n t h = go (compareKeys k (labelKey l)) refl (enter-at-reach lent k cs n t (h .1))
+enter-at-reach : (env : Environment) (k : Key) (cs : Forest) (u : Used) → DecidedAll cs
+    → Becomes (ReachAmong k DecidedBelow) (atEntry k unchanged (enterNew env k) cs u)
+enter-at-reach env k none u h = new-reach env k none u h
+enter-at-reach env k (child m l v cs) u h = go (compareKeys k (rowKey l)) refl (enter-at-reach env k cs u (h .1))
   where
-    go : (o : Ordering) → compareKeys k (labelKey l) ≡ o → Becomes (ReachAmong k DecidedBelow) (atEntry k unchanged (enterNew lent k) cs n t)
+    go : (o : Ordering) → compareKeys k (rowKey l) ≡ o → Becomes (ReachAmong k DecidedBelow) (atEntry k unchanged (enterNew env k) cs u)
         → Becomes (ReachAmong k DecidedBelow)
-        (choose o (enterNew lent k (child m l v cs) n t) (made (child m l v cs) n t)
-        (over (child m l v) (atEntry k unchanged (enterNew lent k) cs n t)))
-    go Ordering·lt e further = new-reach lent k (child m l v cs) n t h
+        (choose o (enterNew env k (child m l v cs) u) (made (child m l v cs) u)
+        (over (child m l v) (atEntry k unchanged (enterNew env k) cs u)))
+    go Ordering·lt e further = new-reach env k (child m l v cs) u h
     go Ordering·eq e further = gives {a = child m l v cs} (rw e (decided-below v (h .0), h .1))
-    go Ordering·gt e further = gives-over (child m l v) (λ ds i u d. rw e (h .0, d)) further
+    go Ordering·gt e further = gives-over (child m l v) (λ ds u′ d. rw e (h .0, d)) further
 
-enter-reach : (lent : Lent) (k : Key) (v : Value) (n : ℕ) (t : List ℕ) → DecidedBelow v → Becomes (Reach DecidedBelow (k ∷ [])) (enterKey lent k v n t)
-enter-reach lent k uninitialized n t h = gives-over map (λ ds i u d. d) (enter-at-reach lent k none n t tt)
-enter-reach lent k null n t h = refuses tt
-enter-reach lent k noValue n t h = refuses tt
-enter-reach lent k (string o x) n t h = refuses tt
-enter-reach lent k (map cs) n t h = gives-over map (λ ds i u d. d) (enter-at-reach lent k cs n t h)
-enter-reach lent k (sequence cs) n t h = refuses tt
+enter-reach : (env : Environment) (k : Key) (l : Row) (v : Value) (u : Used) → DecidedBelow v → BecomesAt l (Reach DecidedBelow (k ∷ [])) (enterKey env k l v u)
+enter-reach env k l uninitialized u h = gives-over (mapAt l) (λ ds u′ d. (refl, d)) (enter-at-reach env k none u tt)
+enter-reach env k l null u h = refuses tt
+enter-reach env k l noValue u h = refuses tt
+enter-reach env k l (string o x) u h = refuses tt
+enter-reach env k l (map cs) u h = gives-over (mapAt l) (λ ds u′ d. (refl, d)) (enter-at-reach env k cs u h)
+enter-reach env k l (sequence cs) u h = refuses tt
 
-map-decided : (v : Value) (n : ℕ) (t : List ℕ) → DecidedBelow v → Becomes DecidedBelow (over map (expectMap v n t))
-map-decided uninitialized n t h = gives tt
-map-decided null n t h = refuses tt
-map-decided noValue n t h = refuses tt
-map-decided (string o x) n t h = refuses tt
-map-decided (map cs) n t h = gives h
-map-decided (sequence cs) n t h = refuses tt
+map-decided : (l : Row) (v : Value) (u : Used) → DecidedBelow v → BecomesAt l DecidedBelow (becomeMap l v u)
+map-decided l uninitialized u h = gives (refl, tt)
+map-decided l null u h = refuses tt
+map-decided l noValue u h = refuses tt
+map-decided l (string o x) u h = refuses tt
+map-decided l (map cs) u h = gives (refl, h)
+map-decided l (sequence cs) u h = refuses tt
 
-sequence-decided : (v : Value) (n : ℕ) (t : List ℕ) → DecidedBelow v → Becomes DecidedBelow (over sequence (expectSequence v n t))
-sequence-decided uninitialized n t h = gives tt
-sequence-decided null n t h = refuses tt
-sequence-decided noValue n t h = refuses tt
-sequence-decided (string o x) n t h = refuses tt
-sequence-decided (map cs) n t h = refuses tt
-sequence-decided (sequence cs) n t h = gives tt
+sequence-decided : (l : Row) (v : Value) (u : Used) → DecidedBelow v → BecomesAt l DecidedBelow (becomeSequence l v u)
+sequence-decided l uninitialized u h = gives (refl, tt)
+sequence-decided l null u h = refuses tt
+sequence-decided l noValue u h = refuses tt
+sequence-decided l (string o x) u h = refuses tt
+sequence-decided l (map cs) u h = refuses tt
+sequence-decided l (sequence cs) u h = gives (refl, tt)
 
 -- The path that a mode follows, and what holds of the tree then.
 abbrev targetPath : Target → List Key
@@ -218,88 +229,93 @@ pathOf (afterBrackets path) = path
 abbrev Reaches : Mode → Value → Type 0
 Reaches m v = Reach DecidedBelow (pathOf m) v
 
-module _ (config : Config) (lent : Lent) where
-  add-reach : (target : Target) (x : Leaf) (v : Value) (n : ℕ) (t : List ℕ) → Reach DecidedBelow (targetPath target) v
-      → Becomes DecidedBelow (perform lent (add target x) v n t)
-  add-reach root x v n t h = gives-weaken (λ w i u d. decided-below w d) (append-obeys (adding lent x) v n t h)
-  add-reach (under path key) x v n t h =
-      gives-weaken (λ w i u d. decided-below w (reach-decided path w d))
-      (at-path-reach DecidedBelow Decided path (insertUnique lent key x) (insert-obeys (adding lent x) key tt) v n t h)
-  add-reach (last path) x v n t h =
-      gives-weaken (λ w i u d. decided-below w (reach-decided path w d))
-      (at-path-reach DecidedBelow Decided path (λ w i u. bind (expectSequence w i u) (push lent x)) (push-obeys (adding lent x)) v n t h)
+module _ (config : Config) (env : Environment) where
+  add-reach : (target : Target) (x : Leaf) (n : Node) (u : Used) → Reach DecidedBelow (targetPath target) (n .value)
+      → Roots DecidedBelow (perform env (add target x) n u)
+  add-reach root x n u h = gives-weaken (λ w u′ d. decided-below (w .value) (d .1)) (append-obeys (adding env x) (n .row) (n .value) u h)
+  add-reach (under path key) x n u h =
+      gives-weaken (λ w u′ d. decided-below (w .value) (reach-decided path (w .value) (d .1)))
+      (at-path-reach DecidedBelow Decided path (insertUnique env key x) (insert-obeys (adding env x) key tt) (n .row) (n .value) u h)
+  add-reach (last path) x n u h =
+      gives-weaken (λ w u′ d. decided-below (w .value) (reach-decided path (w .value) (d .1)))
+      (at-path-reach DecidedBelow Decided path (pushLast env x) (push-obeys (adding env x)) (n .row) (n .value) u h)
 
-  enter-path-reach : (path : List Key) (key : Key) (v : Value) (n : ℕ) (t : List ℕ) → Reach DecidedBelow path v
-      → Becomes (Reach DecidedBelow (path ++ (key ∷ []))) (atPath path (enterKey lent key) v n t)
-  enter-path-reach path key v n t h =
-      gives-weaken (λ w i u d. reach-join DecidedBelow path (key ∷ []) w d)
-      (at-path-reach DecidedBelow (Reach DecidedBelow (key ∷ [])) path (enterKey lent key) (enter-reach lent key) v n t h)
+  enter-path-reach : (path : List Key) (key : Key) (n : Node) (u : Used) → Reach DecidedBelow path (n .value)
+      → Roots (Reach DecidedBelow (path ++ (key ∷ []))) (atPath path (enterKey env key) (n .row) (n .value) u)
+  enter-path-reach path key n u h =
+      gives-weaken (λ w u′ d. reach-join DecidedBelow path (key ∷ []) (w .value) (d .1))
+      (at-path-reach DecidedBelow (Reach DecidedBelow (key ∷ [])) path (enterKey env key) (enter-reach env key) (n .row) (n .value) u h)
 
-  map-reach : (path : List Key) (b : Bool) (level : ℕ) (s opened : List ℕ) (v : Value) (n : ℕ) (t : List ℕ) → Reach DecidedBelow path v
-      → Becomes (Reaches (cond b (keyBelowDepth path level s) (keyAtDepth path opened))) (perform lent (needMap path) v n t)
-  map-reach path true level s opened v n t h = at-path-reach DecidedBelow DecidedBelow path (λ w i u. over map (expectMap w i u)) map-decided v n t h
-  map-reach path false level s opened v n t h = at-path-reach DecidedBelow DecidedBelow path (λ w i u. over map (expectMap w i u)) map-decided v n t h
+  needs-reach : (path : List Key) (rule : NodeRule) (n : Node) (u : Used)
+      → ((l : Row) (v : Value) (w : Used) → DecidedBelow v → BecomesAt l DecidedBelow (rule l v w))
+      → Reach DecidedBelow path (n .value) → Roots (Reach DecidedBelow path) (atPath path rule (n .row) (n .value) u)
+  needs-reach path rule n u f h = gives-weaken (λ w u′ d. d .1) (at-path-reach DecidedBelow DecidedBelow path rule f (n .row) (n .value) u h)
 
-  open-reach : (b : Bool) (c : Command) (m : Mode) (s : List ℕ) (v : Value) (n : ℕ) (t : List ℕ) → DecidedBelow v → Becomes (Reaches m) (perform lent c v n t)
-      → Becomes (Reaches ((cond b (skip then rootKey s) (c then m)) .next)) (perform lent ((cond b (skip then rootKey s) (c then m)) .command) v n t)
-  open-reach true c m s v n t h q = gives h
-  open-reach false c m s v n t h q = q
+  map-reach : (path : List Key) (b : Bool) (level : ℕ) (s opened : List ℕ) (n : Node) (u : Used) → Reach DecidedBelow path (n .value)
+      → Roots (Reaches (cond b (keyBelowDepth path level s) (keyAtDepth path opened))) (perform env (needMap path) n u)
+  map-reach path true level s opened n u h = needs-reach path becomeMap n u map-decided h
+  map-reach path false level s opened n u h = needs-reach path becomeMap n u map-decided h
 
-  finish-reach : (m : Mode) (v : Value) (n : ℕ) (t : List ℕ) → Reaches m v → Becomes DecidedBelow (perform lent (finish config m) v n t)
-  finish-reach (rootKey []) v n t h = gives h
-  finish-reach (rootKey (b ∷ s)) v n t h = add-reach (under [] (keyOf config (b ∷ s))) Leaf.noValue v n t h
-  finish-reach (value target s) v n t h = add-reach target (valueOf s) v n t h
-  finish-reach (bracket path level opened) v n t h = refuses tt
-  finish-reach (keyBelowDepth path level s) v n t h = refuses tt
-  finish-reach (keyAtDepth path s) v n t h = add-reach (under path (keyOf config s)) Leaf.noValue v n t h
-  finish-reach (afterKey path level key) v n t h = add-reach (under path key) Leaf.noValue v n t h
-  finish-reach (afterBrackets path) v n t h = add-reach (last path) Leaf.noValue v n t h
+  open-reach : (b : Bool) (c : Command) (m : Mode) (s : List ℕ) (n : Node) (u : Used) → DecidedBelow (n .value) → Roots (Reaches m) (perform env c n u)
+      → Roots (Reaches ((cond b (skip then rootKey s) (c then m)) .next)) (perform env ((cond b (skip then rootKey s) (c then m)) .command) n u)
+  open-reach true c m s n u h q = gives h
+  open-reach false c m s n u h q = q
 
-  step-reach : (m : Mode) (y : Symbol) (r : List ℕ) (v : Value) (n : ℕ) (t : List ℕ) → Reaches m v
-      → Becomes (Reaches ((step config m y r) .next)) (perform lent ((step config m y r) .command) v n t)
-  step-reach (rootKey s) ampersand r v n t h = finish-reach (rootKey s) v n t h
-  step-reach (rootKey []) equals r v n t h = gives h
-  step-reach (rootKey (b ∷ s)) equals r v n t h = gives h
-  step-reach (rootKey []) opening r v n t h = open-reach (eqb (config .depth) 0) skip (bracket [] 0 r) r v n t h (gives h)
-  step-reach (rootKey (b ∷ s)) opening r v n t h =
-      open-reach (eqb (config .depth) 0) (Command.enter [] (keyOf config (b ∷ s))) (bracket (keyOf config (b ∷ s) ∷ []) 0 r) ((b ∷ s) ++ r) v n t h
-      (enter-reach lent (keyOf config (b ∷ s)) v n t h)
-  step-reach (rootKey s) closing r v n t h = gives h
-  step-reach (rootKey s) other r v n t h = gives h
-  step-reach (value target s) ampersand r v n t h = finish-reach (value target s) v n t h
-  step-reach (value target s) equals r v n t h = gives h
-  step-reach (value target s) opening r v n t h = gives h
-  step-reach (value target s) closing r v n t h = gives h
-  step-reach (value target s) other r v n t h = gives h
-  step-reach (bracket path level opened) ampersand r v n t h = map-reach path (ltb level (config .depth)) level r (opened ++ r) v n t h
-  step-reach (bracket path level opened) equals r v n t h = map-reach path (ltb level (config .depth)) level r (opened ++ r) v n t h
-  step-reach (bracket path level opened) opening r v n t h = map-reach path (ltb level (config .depth)) level r (opened ++ r) v n t h
-  step-reach (bracket path level opened) closing r v n t h =
-      at-path-reach DecidedBelow DecidedBelow path (λ w i u. over sequence (expectSequence w i u)) sequence-decided v n t h
-  step-reach (bracket path level opened) other r v n t h = map-reach path (ltb level (config .depth)) level r (opened ++ r) v n t h
-  step-reach (keyBelowDepth path level s) ampersand r v n t h = gives h
-  step-reach (keyBelowDepth path level s) equals r v n t h = gives h
-  step-reach (keyBelowDepth path level s) opening r v n t h = gives h
-  step-reach (keyBelowDepth path level s) closing r v n t h = gives h
-  step-reach (keyBelowDepth path level s) other r v n t h = gives h
-  step-reach (keyAtDepth path s) ampersand r v n t h = finish-reach (keyAtDepth path s) v n t h
-  step-reach (keyAtDepth path s) equals r v n t h = gives h
-  step-reach (keyAtDepth path s) opening r v n t h = gives h
-  step-reach (keyAtDepth path s) closing r v n t h = gives h
-  step-reach (keyAtDepth path s) other r v n t h = gives h
-  step-reach (afterKey path level key) ampersand r v n t h = finish-reach (afterKey path level key) v n t h
-  step-reach (afterKey path level key) equals r v n t h = gives h
-  step-reach (afterKey path level key) opening r v n t h = enter-path-reach path key v n t h
-  step-reach (afterKey path level key) closing r v n t h = refuses tt
-  step-reach (afterKey path level key) other r v n t h = refuses tt
-  step-reach (afterBrackets path) ampersand r v n t h = finish-reach (afterBrackets path) v n t h
-  step-reach (afterBrackets path) equals r v n t h = gives h
-  step-reach (afterBrackets path) opening r v n t h = refuses tt
-  step-reach (afterBrackets path) closing r v n t h = refuses tt
-  step-reach (afterBrackets path) other r v n t h = refuses tt
+  finish-reach : (m : Mode) (n : Node) (u : Used) → Reaches m (n .value) → Roots DecidedBelow (perform env (finish config m) n u)
+  finish-reach (rootKey []) n u h = gives h
+  finish-reach (rootKey (b ∷ s)) n u h = add-reach (under [] (keyOf config (b ∷ s))) Leaf.noValue n u h
+  finish-reach (value target s) n u h = add-reach target (valueOf s) n u h
+  finish-reach (bracket path level opened) n u h = refuses tt
+  finish-reach (keyBelowDepth path level s) n u h = refuses tt
+  finish-reach (keyAtDepth path s) n u h = add-reach (under path (keyOf config s)) Leaf.noValue n u h
+  finish-reach (afterKey path level key) n u h = add-reach (under path key) Leaf.noValue n u h
+  finish-reach (afterBrackets path) n u h = add-reach (last path) Leaf.noValue n u h
 
-  pub run-reach : (ts : List Token) (p : ℕ) (m : Mode) (v : Value) (n : ℕ) (t : List ℕ) → Reaches m v
-      → Ends (λ w i u. DecidedBelow w) (λ x q. Numbered x) (run config lent ts p m v n t)
+  step-reach : (m : Mode) (y : Symbol) (r : List ℕ) (n : Node) (u : Used) → Reaches m (n .value)
+      → Roots (Reaches ((step config m y r) .next)) (perform env ((step config m y r) .command) n u)
+  step-reach (rootKey s) ampersand r n u h = finish-reach (rootKey s) n u h
+  step-reach (rootKey []) equals r n u h = gives h
+  step-reach (rootKey (b ∷ s)) equals r n u h = gives h
+  step-reach (rootKey []) opening r n u h = open-reach (eqb (config .depth) 0) skip (bracket [] 0 r) r n u h (gives h)
+  step-reach (rootKey (b ∷ s)) opening r n u h =
+      open-reach (eqb (config .depth) 0) (Command.enter [] (keyOf config (b ∷ s))) (bracket (keyOf config (b ∷ s) ∷ []) 0 r) ((b ∷ s) ++ r) n u h
+      (enter-path-reach [] (keyOf config (b ∷ s)) n u h)
+  step-reach (rootKey s) closing r n u h = gives h
+  step-reach (rootKey s) other r n u h = gives h
+  step-reach (value target s) ampersand r n u h = finish-reach (value target s) n u h
+  step-reach (value target s) equals r n u h = gives h
+  step-reach (value target s) opening r n u h = gives h
+  step-reach (value target s) closing r n u h = gives h
+  step-reach (value target s) other r n u h = gives h
+  step-reach (bracket path level opened) ampersand r n u h = map-reach path (ltb level (config .depth)) level r (opened ++ r) n u h
+  step-reach (bracket path level opened) equals r n u h = map-reach path (ltb level (config .depth)) level r (opened ++ r) n u h
+  step-reach (bracket path level opened) opening r n u h = map-reach path (ltb level (config .depth)) level r (opened ++ r) n u h
+  step-reach (bracket path level opened) closing r n u h =
+      needs-reach path becomeSequence n u sequence-decided h
+  step-reach (bracket path level opened) other r n u h = map-reach path (ltb level (config .depth)) level r (opened ++ r) n u h
+  step-reach (keyBelowDepth path level s) ampersand r n u h = gives h
+  step-reach (keyBelowDepth path level s) equals r n u h = gives h
+  step-reach (keyBelowDepth path level s) opening r n u h = gives h
+  step-reach (keyBelowDepth path level s) closing r n u h = gives h
+  step-reach (keyBelowDepth path level s) other r n u h = gives h
+  step-reach (keyAtDepth path s) ampersand r n u h = finish-reach (keyAtDepth path s) n u h
+  step-reach (keyAtDepth path s) equals r n u h = gives h
+  step-reach (keyAtDepth path s) opening r n u h = gives h
+  step-reach (keyAtDepth path s) closing r n u h = gives h
+  step-reach (keyAtDepth path s) other r n u h = gives h
+  step-reach (afterKey path level key) ampersand r n u h = finish-reach (afterKey path level key) n u h
+  step-reach (afterKey path level key) equals r n u h = gives h
+  step-reach (afterKey path level key) opening r n u h = enter-path-reach path key n u h
+  step-reach (afterKey path level key) closing r n u h = refuses tt
+  step-reach (afterKey path level key) other r n u h = refuses tt
+  step-reach (afterBrackets path) ampersand r n u h = finish-reach (afterBrackets path) n u h
+  step-reach (afterBrackets path) equals r n u h = gives h
+  step-reach (afterBrackets path) opening r n u h = refuses tt
+  step-reach (afterBrackets path) closing r n u h = refuses tt
+  step-reach (afterBrackets path) other r n u h = refuses tt
+
+  pub run-reach : (ts : List Token) (p : ℕ) (m : Mode) (n : Node) (u : Used) → Reaches m (n .value)
+      → Ends (λ w u′. DecidedBelow (w .value)) (λ x q. Numbered x) (run config env ts p m n u)
   run-reach =
-      run-ends config lent (λ ts p m v n t. Reaches m v) (λ w i u. DecidedBelow w) (λ x q. Numbered x)
-      (λ y b s ts p m v n t h. step-reach m y (b ∷ s) v n t h) (λ p m v n t h. finish-reach m v n t h)
+      run-ends config env (λ ts p m n u. Reaches m (n .value)) (λ w u′. DecidedBelow (w .value)) (λ x q. Numbered x)
+      (λ y b s ts p m n u h. step-reach m y (b ∷ s) n u h) (λ p m n u h. finish-reach m n u h)

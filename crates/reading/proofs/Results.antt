@@ -10,29 +10,29 @@ use lib.ListN.{length, length-append}
 use Rattle.refusals.specs.declared.Refusal.{Refusal}
 use Rattle.refusals.specs.declared.Refusal.the-variants.{TooFewRecords, TooLittleText}
 use Rattle.key.specs.KeyOrder.{choose}
-use Rattle.reading.specs.Charging.{Lent, Made, over, charge}
+use Rattle.reading.specs.Charging.{Lent, Environment, Used, more, Made, over, charge}
 use Rattle.reading.specs.Covering.{Gives, gives, refuses, Whatever}
 
 -- What is made, with its counts, has P.
-abbrev pub Each : {A : Type 0} → (A → ℕ → List ℕ → Type 0) → Made A → Type 0
+abbrev pub Each : {A : Type 0} → (A → Used → Type 0) → Made A → Type 0
 Each P m = Gives P Whatever m
 
 -- Nothing is said of the counts either.
 abbrev pub All : {A : Type 0} → (A → Type 0) → Made A → Type 0
-All P m = Gives (λ a n t. P a) Whatever m
+All P m = Gives (λ a u. P a) Whatever m
 
-pub gives-over : {A B : Type 0} {P : A → ℕ → List ℕ → Type 0} {Q : B → ℕ → List ℕ → Type 0} {R : Refusal → Type 0} (f : A → B)
-    → ((a : A) (n : ℕ) (t : List ℕ) → P a n t → Q (f a) n t) → {m : Made A} → Gives P R m → Gives Q R (over f m)
-gives-over f h (gives p) = gives (h _ _ _ p)
+pub gives-over : {A B : Type 0} {P : A → Used → Type 0} {Q : B → Used → Type 0} {R : Refusal → Type 0} (f : A → B)
+    → ((a : A) (u : Used) → P a u → Q (f a) u) → {m : Made A} → Gives P R m → Gives Q R (over f m)
+gives-over f h (gives p) = gives (h _ _ p)
 gives-over f h (refuses r) = refuses r
 
-pub gives-map : {A : Type 0} {P Q : A → ℕ → List ℕ → Type 0} {R S : Refusal → Type 0}
-    → ((a : A) (n : ℕ) (t : List ℕ) → P a n t → Q a n t) → ((x : Refusal) → R x → S x) → {m : Made A} → Gives P R m → Gives Q S m
-gives-map f g (gives p) = gives (f _ _ _ p)
+pub gives-map : {A : Type 0} {P Q : A → Used → Type 0} {R S : Refusal → Type 0}
+    → ((a : A) (u : Used) → P a u → Q a u) → ((x : Refusal) → R x → S x) → {m : Made A} → Gives P R m → Gives Q S m
+gives-map f g (gives p) = gives (f _ _ p)
 gives-map f g (refuses r) = refuses (g _ r)
 
-pub gives-weaken : {A : Type 0} {P Q : A → ℕ → List ℕ → Type 0} {R : Refusal → Type 0}
-    → ((a : A) (n : ℕ) (t : List ℕ) → P a n t → Q a n t) → {m : Made A} → Gives P R m → Gives Q R m
+pub gives-weaken : {A : Type 0} {P Q : A → Used → Type 0} {R : Refusal → Type 0}
+    → ((a : A) (u : Used) → P a u → Q a u) → {m : Made A} → Gives P R m → Gives Q R m
 gives-weaken f h = gives-map f (λ x r. r) h
 
 -- A choice by an order has what each of the three has under that order.
@@ -47,25 +47,28 @@ pub by-test : {A : Type 0} (Q : A → Type 0) (b : Bool) {x y : A} → (b ≡ tr
 by-test Q true p q = p refl
 by-test Q false p q = q refl
 
--- Records and text used are within what is lent.
-pub record Within (lent : Lent) (n : ℕ) (t : List ℕ) : Type 0 where
-  pub records : n ≤ lent .records
-  pub bytes : length t ≤ lent .bytes
+-- What is used is within what is lent.
+pub record Within (lent : Lent) (u : Used) : Type 0 where
+  pub records : u .records ≤ lent .records
+  pub bytes : length (u .text) ≤ lent .bytes
 
 -- A charge: what each of its three answers needs.
-pub gives-charge : {A : Type 0} {P : A → ℕ → List ℕ → Type 0} {R : Refusal → Type 0} (lent : Lent) (k : ℕ) (x : List ℕ) (a : A) (n : ℕ) (t : List ℕ)
-    → (lent .records < n + k → R TooFewRecords) → (lent .bytes < length t + length x → R TooLittleText)
-    → (Within lent (n + k) (t ++ x) → P a (n + k) (t ++ x))
-    → Gives P R (charge lent k x a n t)
-gives-charge {P} {R} lent k x a n t few little fits =
-    by-test (Gives P R) (ltb (lent .records) (n + k)) (λ e. refuses (few (ltb-true (lent .records) (n + k) e)))
+pub gives-charge : {A : Type 0} {P : A → Used → Type 0} {R : Refusal → Type 0} (env : Environment) (k : ℕ) (x : List ℕ) (a : A) (u : Used)
+    → (env .lent .records < u .records + k → R TooFewRecords) → (env .lent .bytes < length (u .text) + length x → R TooLittleText)
+    → (Within (env .lent) (more u k x) → P a (more u k x))
+    → Gives P R (charge env k x a u)
+gives-charge {P} {R} env k x a u few little fits =
+    by-test (Gives P R) (ltb (env .lent .records) (u .records + k)) (λ e. refuses (few (ltb-true (env .lent .records) (u .records + k) e)))
     (λ e.
-    by-test (Gives P R) (ltb (lent .bytes) (length t + length x)) (λ f. refuses (little (ltb-true (lent .bytes) (length t + length x) f)))
+    by-test (Gives P R) (ltb (env .lent .bytes) (length (u .text) + length x)) (λ f. refuses (little (ltb-true (env .lent .bytes) (length (u .text) + length x) f)))
     (λ f.
     gives
     (fits
-    (record { records = ltb-false (lent .records) (n + k) e; bytes = omega (arith, ltb-false (lent .bytes) (length t + length x) f, length-append t x) }))))
+    (record {
+      records = ltb-false (env .lent .records) (u .records + k) e;
+      bytes = omega (arith, ltb-false (env .lent .bytes) (length (u .text) + length x) f, length-append (u .text) x);
+    }))))
 
-pub each-charge : {A : Type 0} {P : A → ℕ → List ℕ → Type 0} (lent : Lent) (k : ℕ) (x : List ℕ) (a : A) (n : ℕ) (t : List ℕ)
-    → (Within lent (n + k) (t ++ x) → P a (n + k) (t ++ x)) → Each P (charge lent k x a n t)
-each-charge lent k x a n t fits = gives-charge lent k x a n t (λ h. tt) (λ h. tt) fits
+pub each-charge : {A : Type 0} {P : A → Used → Type 0} (env : Environment) (k : ℕ) (x : List ℕ) (a : A) (u : Used)
+    → (Within (env .lent) (more u k x) → P a (more u k x)) → Each P (charge env k x a u)
+each-charge env k x a u fits = gives-charge env k x a u (λ h. tt) (λ h. tt) fits

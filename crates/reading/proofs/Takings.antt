@@ -6,22 +6,23 @@ use mathlib.Core.List.{List, [], _∷_, _++_}
 use native.Mathlib.Omega.{arith}
 use lib.Dec.{eqb}
 use lib.ListN.{length}
+use Rattle.ascii.specs.Bytes as byte
 use Rattle.config.specs.declared.Config.{Config}
 use Rattle.reading.specs.Taking.{ampersand, opening, closing, Token, token, byteToken, Escape, opens, closes, neither, escape, byEscape, byteTokens, formTokens, tokens}
 
-bytes-split : (a b : List ℕ) → byteTokens (a ++ (38 ∷ b)) ≡ byteTokens a ++ (token ampersand 38 [] ∷ byteTokens b)
+bytes-split : (a b : List ℕ) → byteTokens (a ++ (byte.ampersand ∷ b)) ≡ byteTokens a ++ (token ampersand byte.ampersand [] ∷ byteTokens b)
 bytes-split [] b = refl
 bytes-split (x ∷ a) b = ap (byteToken x ∷_) (bytes-split a b)
 
 -- An `&` is no part of an escape.
-second-ampersand : (b d : ℕ) → escape b 38 d ≡ neither
+second-ampersand : (b d : ℕ) → escape b byte.ampersand d ≡ neither
 second-ampersand b d = go (eqb b 37)
   where
     go : (x : Bool) → cond (x && false) (cond (eqb d 66) opens (cond (eqb d 68) closes neither)) neither ≡ neither
     go true = refl
     go false = refl
 
-third-ampersand : (b c : ℕ) → escape b c 38 ≡ neither
+third-ampersand : (b c : ℕ) → escape b c byte.ampersand ≡ neither
 third-ampersand b c = go (eqb b 37 && eqb c 53)
   where
     go : (x : Bool) → cond x neither neither ≡ neither
@@ -33,7 +34,7 @@ by-escape-split opens p′ q′ r′ ts f g h = f
 by-escape-split closes p′ q′ r′ ts f g h = g
 by-escape-split neither p′ q′ r′ ts f g h = h
 
-form-split : (a b : List ℕ) → formTokens (a ++ (38 ∷ b)) ≡ formTokens a ++ (token ampersand 38 [] ∷ formTokens b)
+form-split : (a b : List ℕ) → formTokens (a ++ (byte.ampersand ∷ b)) ≡ formTokens a ++ (token ampersand byte.ampersand [] ∷ formTokens b)
 form-split [] [] = refl
 form-split [] (c ∷ []) = refl
 form-split [] (c ∷ d ∷ s) = refl
@@ -42,15 +43,15 @@ form-split (x ∷ []) (d ∷ s) = rw (second-ampersand x d) (ap (byteToken x ∷
 form-split (x ∷ y ∷ []) b = rw (third-ampersand x y) (ap (byteToken x ∷_) (form-split (y ∷ []) b))
 form-split (x ∷ y ∷ z ∷ a) b =
     by-escape-split (escape x y z) (token opening x (y ∷ z ∷ []) ∷ formTokens a) (token closing x (y ∷ z ∷ []) ∷ formTokens a) (byteToken x ∷ formTokens (y ∷ z ∷ a))
-    (token ampersand 38 [] ∷ formTokens b) (ap (token opening x (y ∷ z ∷ []) ∷_) (form-split a b)) (ap (token closing x (y ∷ z ∷ []) ∷_) (form-split a b))
+    (token ampersand byte.ampersand [] ∷ formTokens b) (ap (token opening x (y ∷ z ∷ []) ∷_) (form-split a b)) (ap (token closing x (y ∷ z ∷ []) ∷_) (form-split a b))
     (ap (byteToken x ∷_) (form-split (y ∷ z ∷ a) b))
 
-pub tokens-split : (config : Config) (a b : List ℕ) → tokens config (a ++ (38 ∷ b)) ≡ tokens config a ++ (token ampersand 38 [] ∷ tokens config b)
+pub tokens-split : (config : Config) (a b : List ℕ) → tokens config (a ++ (byte.ampersand ∷ b)) ≡ tokens config a ++ (token ampersand byte.ampersand [] ∷ tokens config b)
 tokens-split config a b = go (config .form)
   where
     go : (f : Bool)
-        → cond f (formTokens (a ++ (38 ∷ b))) (byteTokens (a ++ (38 ∷ b))) ≡ cond f (formTokens a) (byteTokens a) ++
-        (token ampersand 38 [] ∷ cond f (formTokens b) (byteTokens b))
+        → cond f (formTokens (a ++ (byte.ampersand ∷ b))) (byteTokens (a ++ (byte.ampersand ∷ b))) ≡ cond f (formTokens a) (byteTokens a) ++
+        (token ampersand byte.ampersand [] ∷ cond f (formTokens b) (byteTokens b))
     go true = form-split a b
     go false = bytes-split a b
 

@@ -5,14 +5,14 @@ use Rattle.decode.specs.Hex.{digitOf}
 use Rattle.decode.specs.Decoding.{decoded}
 use Rattle.decode.specs.Whatwg.{percentDecode}
 use Rattle.key.specs.Keys.{allDigits, valueFrom}
-use Rattle.reading.specs.Reading.{reading}
+use Rattle.reading.specs.Reading.{read}
 use Rattle.reading.specs.Starred.{StarredPass}
 use Rattle.reading.specs.Others.{OthersPass}
 
 pub starred-pass : StarredPass
-unfolding reading flatten decoded digitOf allDigits valueFrom percentDecode
+unfolding read flatten decoded digitOf allDigits valueFrom percentDecode
 starred-pass = (refl, refl)
 
 pub others-pass : OthersPass
-unfolding reading flatten decoded digitOf allDigits valueFrom
+unfolding read flatten decoded digitOf allDigits valueFrom
 others-pass = refl

@@ -2,32 +2,47 @@
 use Prim.Native.Nat.{ℕ, _+_}
 use mathlib.Core.List.{List, [], _∷_, _++_}
 use lib.ListN.{length}
-use Rattle.key.specs.Keys.{Key, int, str}
-use Rattle.reading.specs.Values.{Label, unkeyed, intKey, stringKey, labelKey, Value, uninitialized, null, noValue, string, map, sequence, Forest, none, child}
-use Rattle.reading.specs.Leaves.{Leaf}
 use Rattle.refusals.specs.declared.Refusal.the-variants.{SequenceOnMap, SequenceOnSingle, MapOnSequence, MapOnString}
 use Rattle.refusals.specs.declared.Refusal.the-variants.{MapOnNull, NoSuchField}
+use Rattle.key.specs.Keys.{Key, int, str}
 use Rattle.key.specs.KeyOrder.{compareKeys, choose}
-use Rattle.reading.specs.Charging.{Lent, Made, made, refused, Rule, over, bind, charge}
+use Rattle.reading.specs.Values.{Label, intKey, stringKey, Row, rowKey, bare, Value, uninitialized, null, noValue}
+use Rattle.reading.specs.Values.{string, map, sequence, Forest, none, child, Node, at}
+use Rattle.reading.specs.Leaves.{Leaf}
+use Rattle.reading.specs.Charging.{Environment, Used, Made, made, refused, Rule, NodeRule, over, bind, charge}
 
 -- "Needing a map: Uninitialized becomes Map, a Map serves, the rest refuse (8, 9, 10)." `expect_map` of the source; here the children of
 -- the map.
-abbrev pub expectMap : Value → ℕ → List ℕ → Made Forest
-expectMap uninitialized used text = made none used text
-expectMap null used text = refused MapOnNull
-expectMap noValue used text = refused MapOnNull
-expectMap (string o x) used text = refused MapOnString
-expectMap (map children) used text = made children used text
-expectMap (sequence children) used text = refused MapOnSequence
+abbrev pub expectMap : Value → Used → Made Forest
+expectMap uninitialized used = made none used
+expectMap null used = refused MapOnNull
+expectMap noValue used = refused MapOnNull
+expectMap (string o x) used = refused MapOnString
+expectMap (map children) used = made children used
+expectMap (sequence children) used = refused MapOnSequence
 
 -- "`]`: Uninitialized becomes Sequence, a Sequence serves, the rest refuse (6, 7)."
-abbrev pub expectSequence : Value → ℕ → List ℕ → Made Forest
-expectSequence uninitialized used text = made none used text
-expectSequence null used text = refused SequenceOnSingle
-expectSequence noValue used text = refused SequenceOnSingle
-expectSequence (string o x) used text = refused SequenceOnSingle
-expectSequence (map children) used text = refused SequenceOnMap
-expectSequence (sequence children) used text = made children used text
+abbrev pub expectSequence : Value → Used → Made Forest
+expectSequence uninitialized used = made none used
+expectSequence null used = refused SequenceOnSingle
+expectSequence noValue used = refused SequenceOnSingle
+expectSequence (string o x) used = refused SequenceOnSingle
+expectSequence (map children) used = refused SequenceOnMap
+expectSequence (sequence children) used = made children used
+
+-- A Map and a Sequence with these children at a record.
+abbrev pub mapAt : Row → Forest → Node
+mapAt row children = at row (map children)
+
+abbrev pub sequenceAt : Row → Forest → Node
+sequenceAt row children = at row (sequence children)
+
+-- The record is a Map, or a Sequence, then.
+abbrev pub becomeMap : NodeRule
+becomeMap row value used = over (mapAt row) (expectMap value used)
+
+abbrev pub becomeSequence : NodeRule
+becomeSequence row value used = over (sequenceAt row) (expectSequence value used)
 
 -- The text that a new key and a new value take.
 abbrev pub keyText : Key → List ℕ
@@ -45,6 +60,10 @@ labelAt (int a) o = intKey a
 labelAt (str []) o = stringKey 0 []
 labelAt (str (b ∷ x)) o = stringKey o (b ∷ x)
 
+-- The row of a record that is made under a key.
+abbrev pub rowAt : Key → ℕ → Row
+rowAt key o = record { label = labelAt key o }
+
 -- A new value whose text, if it has any, starts at o.
 abbrev pub valueAt : Leaf → ℕ → Value
 valueAt Leaf.null o = null
@@ -53,87 +72,93 @@ valueAt (Leaf.string x) o = string o x
 
 -- "A new key takes the value": a new child in front of the later siblings, its text "key before value". "one new record", "text for a
 -- new key plus the value"
-abbrev pub insertNew : Lent → Key → Leaf → Rule Forest
-insertNew lent key leaf later used text =
-    charge lent 1 (keyText key ++ leafText leaf)
-    (child used (labelAt key (length text)) (valueAt leaf (length text + length (keyText key))) later) used text
+abbrev pub insertNew : Environment → Key → Leaf → Rule Forest
+insertNew env key leaf later used =
+    charge env 1 (keyText key ++ leafText leaf)
+    (child (used .records) (rowAt key (length (used .text))) (valueAt leaf (length (used .text) + length (keyText key))) later) used
 
 -- A new key that is entered: "Uninitialized if new".
-abbrev pub enterNew : Lent → Key → Rule Forest
-enterNew lent key later used text =
-    charge lent 1 (keyText key) (child used (labelAt key (length text)) uninitialized later) used text
+abbrev pub enterNew : Environment → Key → Rule Forest
+enterNew env key later used =
+    charge env 1 (keyText key) (child (used .records) (rowAt key (length (used .text))) uninitialized later) used
 
 -- "a single value becomes a Sequence of two, keeping its record number and key, the old value moving to a new record and the new one
--- following"; "two for the last rule". Number and key stand in the forest above, so they are kept.
-abbrev pub sequenceOfTwo : Lent → Leaf → Rule Value
-sequenceOfTwo lent leaf value used text =
-    charge lent 2 (leafText leaf)
-    (sequence (child used unkeyed value (child (used + 1) unkeyed (valueAt leaf (length text)) none))) used text
+-- following"; "two for the last rule". The number stands in the forest above, so it is kept.
+abbrev pub sequenceOfTwo : Environment → Leaf → NodeRule
+sequenceOfTwo env leaf row value used =
+    let new = child (used .records + 1) bare (valueAt leaf (length (used .text))) none in
+    charge env 2 (leafText leaf) (sequenceAt row (child (used .records) bare value new)) used
 
 -- Some children, and then others.
 abbrev pub snoc : Forest → Forest → Forest
 snoc none last = last
-snoc (child number label value later) last = child number label value (snoc later last)
+snoc (child number row value later) last = child number row value (snoc later last)
 
 -- "a Sequence gets it last"
-abbrev pub push : Lent → Leaf → Forest → ℕ → List ℕ → Made Value
-push lent leaf children used text =
-    charge lent 1 (leafText leaf)
-    (sequence (snoc children (child used unkeyed (valueAt leaf (length text)) none))) used text
+abbrev pub push : Environment → Leaf → Row → Forest → Used → Made Node
+push env leaf row children used =
+    charge env 1 (leafText leaf)
+    (sequenceAt row (snoc children (child (used .records) bare (valueAt leaf (length (used .text))) none))) used
 
 -- `append_value` of the source. "Uninitialized becomes it" and takes no new record.
 abbrev mutual
-  pub appendValue : Lent → Leaf → Rule Value
-  appendValue lent leaf uninitialized used text = charge lent 0 (leafText leaf) (valueAt leaf (length text)) used text
-  appendValue lent leaf null used text = sequenceOfTwo lent leaf null used text
-  appendValue lent leaf noValue used text = sequenceOfTwo lent leaf noValue used text
-  appendValue lent leaf (string o x) used text = sequenceOfTwo lent leaf (string o x) used text
-  appendValue lent leaf (map children) used text = over map (appendEmptyKey lent leaf children used text)
-  appendValue lent leaf (sequence children) used text = push lent leaf children used text
+  pub appendValue : Environment → Leaf → NodeRule
+  appendValue env leaf row uninitialized used = charge env 0 (leafText leaf) (at row (valueAt leaf (length (used .text)))) used
+  appendValue env leaf row null used = sequenceOfTwo env leaf row null used
+  appendValue env leaf row noValue used = sequenceOfTwo env leaf row noValue used
+  appendValue env leaf row (string o x) used = sequenceOfTwo env leaf row (string o x) used
+  appendValue env leaf row (map children) used = over (mapAt row) (appendEmptyKey env leaf children used)
+  appendValue env leaf row (sequence children) used = push env leaf row children used
 
   -- "a Map adds it under its empty key, calling the same rule again". This is `atEntry (str [])` below, written out for the recursion
   -- (proofs/Rules: append-at-entry).
-  pub appendEmptyKey : Lent → Leaf → Rule Forest
-  appendEmptyKey lent leaf none used text = insertNew lent (str []) leaf none used text
-  appendEmptyKey lent leaf (child number label value later) used text =
-      let here = over (λ v. child number label v later) (appendValue lent leaf value used text) in
-      let further = over (child number label value) (appendEmptyKey lent leaf later used text) in
-      choose (compareKeys (str []) (labelKey label)) (insertNew lent (str []) leaf (child number label value later) used text) here further
+  pub appendEmptyKey : Environment → Leaf → Rule Forest
+  appendEmptyKey env leaf none used = insertNew env (str []) leaf none used
+  appendEmptyKey env leaf (child number row value later) used =
+      let here = over (λ n. child number (n .row) (n .value) later) (appendValue env leaf row value used) in
+      let further = over (child number row value) (appendEmptyKey env leaf later used) in
+      choose (compareKeys (str []) (rowKey row)) (insertNew env (str []) leaf (child number row value later) used) here further
 
 -- The child under a key (`map.entry` of the source): `occupied` changes it where it stands; if there is none, `vacant` is handed the
 -- siblings that come after it.
-abbrev pub atEntry : Key → Rule Value → Rule Forest → Rule Forest
-atEntry key occupied vacant none used text = vacant none used text
-atEntry key occupied vacant (child number label value later) used text =
-    let here = over (λ v. child number label v later) (occupied value used text) in
-    let further = over (child number label value) (atEntry key occupied vacant later used text) in
-    choose (compareKeys key (labelKey label)) (vacant (child number label value later) used text) here further
+abbrev pub atEntry : Key → NodeRule → Rule Forest → Rule Forest
+atEntry key occupied vacant none used = vacant none used
+atEntry key occupied vacant (child number row value later) used =
+    let here = over (λ n. child number (n .row) (n .value) later) (occupied row value used) in
+    let further = over (child number row value) (atEntry key occupied vacant later used) in
+    choose (compareKeys key (rowKey row)) (vacant (child number row value later) used) here further
+
+-- A rule at an entry of the map that is needed here.
+abbrev pub inMap : Key → NodeRule → Rule Forest → NodeRule
+inMap key occupied vacant row value used =
+    bind (expectMap value used) (λ children u. over (mapAt row) (atEntry key occupied vacant children u))
 
 -- A value put under a key of the map that is needed here: `insert_unique` of the source, after its `expect_map`.
-abbrev pub insertUnique : Lent → Key → Leaf → Rule Value
-insertUnique lent key leaf value used text =
-    bind (expectMap value used text)
-    (λ children u t. over map (atEntry key (appendValue lent leaf) (insertNew lent key leaf) children u t))
+abbrev pub insertUnique : Environment → Key → Leaf → NodeRule
+insertUnique env key leaf = inMap key (appendValue env leaf) (insertNew env key leaf)
 
 -- A key that is entered and exists: "An existing key is charged nothing."
-abbrev pub unchanged : {A : Type 0} → Rule A
-unchanged a used text = made a used text
+abbrev pub unchanged : NodeRule
+unchanged row value used = made (at row value) used
 
 -- A key entered in the map that is needed here.
-abbrev pub enterKey : Lent → Key → Rule Value
-enterKey lent key value used text =
-    bind (expectMap value used text) (λ children u t. over map (atEntry key unchanged (enterNew lent key) children u t))
+abbrev pub enterKey : Environment → Key → NodeRule
+enterKey env key = inMap key unchanged (enterNew env key)
 
--- No value stands there. No reading comes to it (specs/Answers).
-abbrev pub noPath : {A : Type 0} → Rule A
-noPath a used text = refused NoSuchField
+-- A value added last in the sequence that is needed here.
+abbrev pub pushLast : Environment → Leaf → NodeRule
+pushLast env leaf row value used = bind (expectSequence value used) (push env leaf row)
+
+-- No value stands there. No reading comes to it (specs/Answers: none has a number above 15, and this one's is 17).
+abbrev pub noPath : Rule Forest
+noPath children used = refused NoSuchField
 
 -- A rule at the value that the keys lead to from here.
-abbrev pub atPath : List Key → Rule Value → Rule Value
-atPath [] rule value used text = rule value used text
-atPath (key ∷ keys) rule uninitialized used text = refused NoSuchField
-atPath (key ∷ keys) rule null used text = refused NoSuchField
-atPath (key ∷ keys) rule noValue used text = refused NoSuchField
-atPath (key ∷ keys) rule (string o x) used text = refused NoSuchField
-atPath (key ∷ keys) rule (sequence children) used text = refused NoSuchField
-atPath (key ∷ keys) rule (map children) used text = over map (atEntry key (atPath keys rule) noPath children used text)
+abbrev pub atPath : List Key → NodeRule → NodeRule
+atPath [] rule row value used = rule row value used
+atPath (key ∷ keys) rule row uninitialized used = refused NoSuchField
+atPath (key ∷ keys) rule row null used = refused NoSuchField
+atPath (key ∷ keys) rule row noValue used = refused NoSuchField
+atPath (key ∷ keys) rule row (string o x) used = refused NoSuchField
+atPath (key ∷ keys) rule row (sequence children) used = refused NoSuchField
+atPath (key ∷ keys) rule row (map children) used = over (mapAt row) (atEntry key (atPath keys rule) noPath children used)

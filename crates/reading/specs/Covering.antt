@@ -3,15 +3,15 @@
 use Prim.Native.Nat.{ℕ, _+_, _≤_}
 use mathlib.Core.List.{List, [], _∷_}
 use lib.ListN.{length}
-use Rattle.reading.specs.Values.{Value, uninitialized, null, noValue, string, map, sequence}
+use Rattle.reading.specs.Values.{Value, uninitialized, null, noValue, string, map, sequence, Node}
 use Rattle.refusals.specs.declared.Refusal.{Refusal}
-use Rattle.reading.specs.Charging.{Made, made, refused}
+use Rattle.reading.specs.Charging.{Used, Made, made, refused}
 use Rattle.reading.specs.Adding.{keyText}
 use Rattle.reading.specs.Scanning.{Target, root, under, last, Mode, rootKey, value, bracket, keyBelowDepth, keyAtDepth, afterKey, afterBrackets}
 
--- P of what is made and of the counts with it, R of a refusal.
-pub data Gives {A : Type 0} (P : A → ℕ → List ℕ → Type 0) (R : Refusal → Type 0) : Made A → Type 0 where
-  gives : {a : A} {n : ℕ} {t : List ℕ} → P a n t → Gives P R (made a n t)
+-- P of what is made and of what is used then, R of a refusal.
+pub data Gives {A : Type 0} (P : A → Used → Type 0) (R : Refusal → Type 0) : Made A → Type 0 where
+  gives : {a : A} {u : Used} → P a u → Gives P R (made a u)
   refuses : {x : Refusal} → R x → Gives P R (refused x)
 
 -- Nothing is said of refusals.
@@ -54,6 +54,6 @@ pending (afterKey path level key) = length (keyText key)
 pending (afterBrackets path) = 0
 
 -- The bytes taken cover what is used and what the mode may still need.
-pub record Covered (place : ℕ) (mode : Mode) (tree : Value) (used : ℕ) (text : List ℕ) : Type 0 where
-  pub records : used + needs mode tree ≤ 1 + place
-  pub bytes : length text + pending mode ≤ place
+pub record Covered (place : ℕ) (mode : Mode) (tree : Node) (used : Used) : Type 0 where
+  pub records : used .records + needs mode (tree .value) ≤ 1 + place
+  pub bytes : length (used .text) + pending mode ≤ place

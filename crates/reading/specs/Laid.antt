@@ -29,4 +29,4 @@ abbrev mutual
 
   pub LaidAll : List ℕ → Forest → Type 0
   LaidAll text none = Unit
-  LaidAll text (child number label value later) = LaidLabel text label × Laid text value × LaidAll text later
+  LaidAll text (child number row value later) = LaidLabel text (row .label) × Laid text value × LaidAll text later

@@ -20,6 +20,11 @@ pub mod Counts
 pub mod UniqueKeys
 pub mod Space
 pub mod Growth
+pub mod Numbers
+pub mod ReadBack
+pub mod Fitting
+pub mod Joining
+pub mod Limits
 pub mod Tests
 pub mod Starred
 pub mod Others

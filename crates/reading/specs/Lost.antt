@@ -10,11 +10,11 @@ use Rattle.reading.specs.Trees.{Tree}
 use Rattle.reading.specs.Buffers.{treeIn}
 use Rattle.reading.specs.Keeping.{KeepsTree}
 use Rattle.ascii.specs.Texts.{ascii}
-use Rattle.reading.specs.Tests.{before}
+use Rattle.reading.specs.Tests.{records, before}
 
 -- The reading of an input at the default settings, into 8 records and 16 bytes of text.
 abbrev pub readOf : String → Outcome
-readOf input = reading defaults (ascii input) (before 64) (before 16)
+readOf input = reading defaults (ascii input) (before (records 8)) (before 16)
 
 -- The tree that it leaves.
 abbrev pub treeOf : String → Tree

@@ -9,11 +9,11 @@ use Rattle.config.specs.declared.Config.{Config}
 use Rattle.config.specs.Limits.{maxDepth, maxLen}
 use Rattle.row.specs.Row.{recordWidth}
 use Rattle.reading.specs.declared.Reading.{Reading}
-use Rattle.reading.specs.Values.{uninitialized, noValue}
+use Rattle.reading.specs.Values.{bare, Value, uninitialized, noValue, Node, at}
 use Rattle.refusals.specs.declared.Refusal.{Refusal}
 use Rattle.refusals.specs.declared.Refusal.the-variants.{TooDeep, TooLong, NoRecord}
 use Rattle.refusals.specs.Codes.{code}
-use Rattle.reading.specs.Charging.{Lent}
+use Rattle.reading.specs.Charging.{Lent, Environment, rootOnly}
 use Rattle.reading.specs.Taking.{tokens}
 use Rattle.reading.specs.Scanning.{rootKey}
 use Rattle.reading.specs.Running.{Answer, accepted, refusedAt, run}
@@ -37,19 +37,27 @@ refuses x place = record { number = code x; place = place; records = 0; bytes = 
 abbrev pub lentBy : List ℕ → List ℕ → Lent
 lentBy words text = record { records = length words / recordWidth; bytes = length text }
 
+-- A tree that is the root alone, of this value.
+abbrev pub alone : Value → Node
+alone value = at bare value
+
+-- What the rules are told where so much is lent.
+abbrev pub lending : Lent → Environment
+lending lent = record { lent = lent }
+
 -- `parse` of the source. "Empty ticket: NoValue root. Otherwise the root is Uninitialized and pairs follow." "The place starts at 0."
 abbrev pub parsed : Config → List ℕ → Lent → Answer
-parsed config [] lent = accepted noValue 1 []
-parsed config (b ∷ s) lent = run config lent (tokens config (b ∷ s)) 0 (rootKey []) uninitialized 1 []
+parsed config [] lent = accepted (alone noValue) rootOnly
+parsed config (b ∷ s) lent = run config (lending lent) (tokens config (b ∷ s)) 0 (rootKey []) (alone uninitialized) rootOnly
 
 -- "Both slices are cleared once refusals 1 to 3 are passed; what an accepted reading doesn't use is zero." The arguments are the lengths of
 -- the words and the text that are lent.
 abbrev pub outcome : ℕ → ℕ → Answer → Outcome
-outcome words bytes (accepted tree used text) =
+outcome words bytes (accepted tree used) =
     record {
-      answer = accepts used (length text);
-      words = layout used tree ++ replicate (words - used * recordWidth) 0;
-      text = text ++ replicate (bytes - length text) 0;
+      answer = accepts (used .records) (length (used .text));
+      words = layout (used .records) tree ++ replicate (words - used .records * recordWidth) 0;
+      text = used .text ++ replicate (bytes - length (used .text)) 0;
     }
 outcome words bytes (refusedAt x place) =
     record { answer = refuses x place; words = replicate words 0; text = replicate bytes 0 }
@@ -58,9 +66,30 @@ outcome words bytes (refusedAt x place) =
 abbrev pub unread : Refusal → List ℕ → List ℕ → Outcome
 unread x words text = record { answer = refuses x 0; words = words; text = text }
 
-unfoldable pub reading : Config → List ℕ → List ℕ → List ℕ → Outcome
-reading config input words text =
-    let read = outcome (length words) (length text) (parsed config input (lentBy words text)) in
-    cond (ltb maxDepth (config .depth)) (unread TooDeep words text)
-    (cond (ltb maxLen (length input)) (unread TooLong words text)
-    (cond (ltb (length words) recordWidth) (unread NoRecord words text) read))
+-- What stands once refusals 1 to 15 were passed or met: the tree that was read with the outcome, or the outcome of a refusal.
+pub data Read : Type 0 where
+  passed : Node → Outcome → Read
+  met : Outcome → Read
+
+abbrev pub readOf : ℕ → ℕ → Answer → Read
+readOf words bytes (accepted tree used) = passed tree (outcome words bytes (accepted tree used))
+readOf words bytes (refusedAt x place) = met (outcome words bytes (refusedAt x place))
+
+unfoldable pub read : Config → List ℕ → List ℕ → List ℕ → Read
+read config input words text =
+    let done = readOf (length words) (length text) (parsed config input (lentBy words text)) in
+    cond (ltb maxDepth (config .depth)) (met (unread TooDeep words text))
+    (cond (ltb maxLen (length input)) (met (unread TooLong words text))
+    (cond (ltb (length words) recordWidth) (met (unread NoRecord words text)) done))
+
+-- "After a reading accepts": what is made of the tree and the outcome then; else what is made of the refusal's outcome.
+abbrev pub after : {A : Type 0} → Read → (Node → Outcome → A) → (Outcome → A) → A
+after (passed tree o) onward refusal = onward tree o
+after (met o) onward refusal = refusal o
+
+-- The outcome of a reading.
+abbrev pub outcomeOf : Read → Outcome
+outcomeOf r = after r (λ tree o. o) (λ o. o)
+
+abbrev pub reading : Config → List ℕ → List ℕ → List ℕ → Outcome
+reading config input words text = outcomeOf (read config input words text)

@@ -6,7 +6,8 @@ use lib.Dec.{eqb}
 use lib.ListN.{length, replicate}
 use Rattle.row.specs.Row.{recordWidth, noKeyKind, intKeyKind, stringKeyKind}
 use Rattle.row.specs.Row.{uninitializedKind, mapKind, sequenceKind, stringKind, nullKind, noValueKind}
-use Rattle.reading.specs.Values.{Label, unkeyed, intKey, stringKey, Value, uninitialized, null, noValue, string, map, sequence, Forest, none, child}
+use Rattle.reading.specs.Values.{Label, unkeyed, intKey, stringKey, Row, Value, uninitialized, null, noValue, string}
+use Rattle.reading.specs.Values.{map, sequence, Forest, none, child, Node}
 
 -- "0 kind: 0 Uninitialized, 1 Map, 2 Sequence, 3 String, 4 Null, 5 NoValue"
 abbrev pub kind : Value → ℕ
@@ -44,7 +45,7 @@ textLength noValue = 0
 -- "6 first child's record number, 7 next sibling's, 0 for none"
 abbrev pub first : Forest → ℕ
 first none = 0
-first (child number label value later) = number
+first (child number row value later) = number
 
 abbrev pub firstChild : Value → ℕ
 firstChild uninitialized = 0
@@ -54,10 +55,10 @@ firstChild (string o x) = 0
 firstChild null = 0
 firstChild noValue = 0
 
--- A record: its key, its value, its later siblings.
-abbrev pub recordWords : Label → Value → Forest → List ℕ
-recordWords label value later =
-    kind value ∷ keyWords label ++ (textOffset value ∷ textLength value ∷ firstChild value ∷ first later ∷ [])
+-- A record, its words in the order of their numbers (row's specs/Row): its row, its value, its later siblings.
+abbrev pub recordWords : Row → Value → Forest → List ℕ
+recordWords row value later =
+    kind value ∷ keyWords (row .label) ++ (textOffset value ∷ textLength value ∷ firstChild value ∷ first later ∷ [])
 
 -- The record of number i below a value, and among some children and all below them; else the default d.
 abbrev mutual
@@ -71,15 +72,19 @@ abbrev mutual
 
   pub recordAmong : ℕ → Forest → List ℕ → List ℕ
   recordAmong i none d = d
-  recordAmong i (child number label value later) d =
+  recordAmong i (child number row value later) d =
       let elsewhere = recordBelow i value (recordAmong i later d) in
-      cond (eqb i number) (recordWords label value later) elsewhere
+      cond (eqb i number) (recordWords row value later) elsewhere
 
--- k records from number i on. Every number below those used is found (proofs/Held: Held).
+-- k records from number i on. Every number below those used is found (specs/ReadBack).
 abbrev pub recordsFrom : ℕ → ℕ → Forest → List ℕ
 recordsFrom zero i children = []
 recordsFrom (suc k) i children = recordAmong i children (replicate recordWidth 0) ++ recordsFrom k (suc i) children
 
--- The words of a tree that uses so many records. "Record 0 is the root." It has no key and no sibling.
-abbrev pub layout : ℕ → Value → List ℕ
-layout used tree = recordsFrom used 0 (child 0 unkeyed tree none)
+-- "Record 0 is the root." It has no sibling.
+abbrev pub rooted : Node → Forest
+rooted tree = child 0 (tree .row) (tree .value) none
+
+-- The words of a tree that uses so many records.
+abbrev pub layout : ℕ → Node → List ℕ
+layout used tree = recordsFrom used 0 (rooted tree)

@@ -4,7 +4,8 @@ use Prim.Native.Nat.{ℕ, _<_, Ordering·lt}
 use mathlib.Core.Path.{_≡_}
 use mathlib.Core.List.{List}
 use Rattle.config.specs.declared.Config.{Config}
-use Rattle.reading.specs.Values.{Label, unkeyed, intKey, stringKey, labelKey, Value, uninitialized, null, noValue, string, map, sequence, Forest, none, child}
+use Rattle.reading.specs.Values.{Label, unkeyed, intKey, stringKey, Row, rowKey, Value, uninitialized, null}
+use Rattle.reading.specs.Values.{noValue, string, map, sequence, Forest, none, child, Node}
 use Rattle.key.specs.KeyOrder.{compareKeys}
 use Rattle.reading.specs.Running.{Accepts}
 use Rattle.reading.specs.Reading.{lentBy, parsed, reading}
@@ -26,14 +27,14 @@ pub data SingleValue : Value → Type 0 where
   isString : {o : ℕ} {x : List ℕ} → SingleValue (string o x)
 
 -- A key that stands strictly before the next sibling's.
-abbrev pub Before : Label → Forest → Type 0
-Before label none = Unit
-Before label (child number next value later) = compareKeys (labelKey label) (labelKey next) ≡ Ordering·lt
+abbrev pub Before : Row → Forest → Type 0
+Before row none = Unit
+Before row (child number next value later) = compareKeys (rowKey row) (rowKey next) ≡ Ordering·lt
 
 -- The children of a Sequence have no keys and are single values.
 abbrev pub ShapedSequence : Forest → Type 0
 ShapedSequence none = Unit
-ShapedSequence (child number label value later) = Unkeyed label × SingleValue value × ShapedSequence later
+ShapedSequence (child number row value later) = Unkeyed (row .label) × SingleValue value × ShapedSequence later
 
 abbrev mutual
   pub Shaped : Value → Type 0
@@ -47,7 +48,8 @@ abbrev mutual
   -- The children of a Map have keys, which rise strictly in key order.
   pub ShapedMap : Forest → Type 0
   ShapedMap none = Unit
-  ShapedMap (child number label value later) = Keyed label × Before label later × Shaped value × ShapedMap later
+  ShapedMap (child number row value later) =
+      Keyed (row .label) × Before row later × Shaped value × ShapedMap later
 
 -- Nothing is "undecided". (The elements of a Sequence are single values by the above.)
 abbrev mutual
@@ -61,7 +63,7 @@ abbrev mutual
 
   pub DecidedAll : Forest → Type 0
   DecidedAll none = Unit
-  DecidedAll (child number label value later) = Decided value × DecidedAll later
+  DecidedAll (child number row value later) = Decided value × DecidedAll later
 
 -- Nothing but perhaps the root is undecided.
 abbrev pub DecidedBelow : Value → Type 0
@@ -84,11 +86,18 @@ abbrev mutual
 
   pub RisingAll : ℕ → ℕ → Forest → Type 0
   RisingAll parent used none = Unit
-  RisingAll parent used (child number label value later) =
+  RisingAll parent used (child number row value later) =
       (parent < number) × (number < used) × Rising number used value × RisingAll parent used later
+
+-- All of it, of a tree that uses so many records. The root has no key.
+pub record WellShaped (used : ℕ) (tree : Node) : Type 0 where
+  pub root : tree .row .label ≡ unkeyed
+  pub shaped : Shaped (tree .value)
+  pub decided : DecidedBelow (tree .value)
+  pub rising : Rising 0 used (tree .value)
 
 abbrev pub Shape : Type 0
 Shape =
     (config : Config) (input words text : List ℕ)
     → (reading config input words text) .answer .number ≡ 0
-    → Accepts (λ tree used laid. Shaped tree × DecidedBelow tree × Rising 0 used tree) (parsed config input (lentBy words text))
+    → Accepts (λ tree used. WellShaped (used .records) tree) (parsed config input (lentBy words text))

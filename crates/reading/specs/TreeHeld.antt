@@ -1,18 +1,17 @@
 -- Document 01, 'A ticket that grows': what an accepted reading leaves in records and text is the tree that the sections from 'Taking a byte'
--- to 'Adding' make. Proved in proofs/Outcomes as `tree-held`.
+-- to 'Adding' make, with its record numbers and offsets. Proved in proofs/Outcomes as `tree-held`.
 use Prim.Native.Nat.{ℕ}
 use mathlib.Core.Path.{_≡_}
 use mathlib.Core.List.{List}
 use Rattle.config.specs.declared.Config.{Config}
 use Rattle.reading.specs.Running.{Accepts}
 use Rattle.reading.specs.Reading.{lentBy, parsed, reading}
-use Rattle.reading.specs.Trees.{plain}
-use Rattle.reading.specs.Buffers.{treeIn}
+use Rattle.reading.specs.Buffers.{nodeIn}
 
 abbrev pub TreeHeld : Type 0
 TreeHeld =
     (config : Config) (input words text : List ℕ)
     → (reading config input words text) .answer .number ≡ 0
     → Accepts
-    (λ tree used laid. treeIn ((reading config input words text) .words) ((reading config input words text) .text) ≡ plain tree)
+    (λ tree used. nodeIn ((reading config input words text) .words) ((reading config input words text) .text) ≡ tree)
     (parsed config input (lentBy words text))

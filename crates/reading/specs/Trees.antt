@@ -3,7 +3,7 @@
 use Prim.Native.Nat.{ℕ}
 use mathlib.Core.List.{List}
 use Rattle.key.specs.Keys.{Key}
-use Rattle.reading.specs.Values.{labelKey, Value, Forest, none, child}
+use Rattle.reading.specs.Values.{rowKey, Value, Forest, none, child}
 
 mutual
   pub data Tree : Type 0 where
@@ -32,8 +32,8 @@ abbrev mutual
 
   pub entries : Forest → Entries
   entries none = noEntries
-  entries (child number label value later) = entry (labelKey label) (plain value) (entries later)
+  entries (child number row value later) = entry (rowKey row) (plain value) (entries later)
 
   pub elements : Forest → Elements
   elements none = noElements
-  elements (child number label value later) = element (plain value) (elements later)
+  elements (child number row value later) = element (plain value) (elements later)
