@@ -15,8 +15,9 @@ use Rattle.tree.specs.declared.Performed.{Performed}
 use Rattle.tree.specs.declared.Performed.the-variants.{Made as MadeHere, Refused}
 use Rattle.tree.specs.Stored.{Stands}
 
--- The words, the text and the answer after a command: the tree that is made stands there with its counts, and the path leads to the record
--- that is answered; or the answer is the refusal, and what the words and the text hold then is free: `parse` clears both.
+-- The words, the text and the answer after a command: the tree that is made stands there with its counts, and the path
+-- leads to the record that is answered; or the answer is the refusal, and what the words and the text hold then is
+-- free: `parse` clears both.
 pub data After (lent : Lent) (ws text : List ℕ) (path : List Key) : Performed → Made Value → Type 0 where
   stood : {here : Here} {tree : Value} {used : ℕ} {laid : List ℕ} → used ≡ here .records → Stands lent ws text here path tree laid
       → After lent ws text path (MadeHere here) (made tree used laid)

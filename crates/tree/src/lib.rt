@@ -1,7 +1,7 @@
 // The commands of a reading on the tree that the lent records and text hold: a map needed, a sequence needed, a key entered, a value added.
 // What each leaves and answers is what `perform` of the definitions makes of that tree (specs/Commands).
-// Below it stand the store of records (records), a record's row (row), the refusals (refusals), the keys (key), decoding (decode) and the
-// definitions (reading).
+// Below it stand the store of records (records), a record's row (row), the refusals (refusals), the keys (key),
+// decoding (decode), the definitions (reading) and laws.
 pub mod adding; // a value added
 pub mod entering; // a key entered
 mod laying; // text laid behind what is used
