@@ -22,7 +22,7 @@ anyway : {A B : Type 0} (m : Made Node) → A → B → Gives (λ v u. A) (λ x.
 anyway (made v u) a b = gives a
 anyway (refused x) a b = refuses b
 
-parsed-placed : (config : Config) (input : List ℕ) (lent : Lent) → Ends (λ v u. Unit) (λ x p. p ≤ length input + 1) (parsed config input lent)
+pub parsed-placed : (config : Config) (input : List ℕ) (lent : Lent) → Ends (λ v u. Unit) (λ x p. p ≤ length input + 1) (parsed config input lent)
 parsed-placed config [] lent = accepts tt
 parsed-placed config (b ∷ s) lent =
     let env = lending lent in
