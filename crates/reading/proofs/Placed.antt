@@ -22,7 +22,7 @@ anyway : {A B : Type 0} (m : Made Node) → A → B → Gives (λ v u. A) (λ x.
 anyway (made v u) a b = gives a
 anyway (refused x) a b = refuses b
 
-pub parsed-placed : (config : Config) (input : List ℕ) (lent : Lent) → Ends (λ v u. Unit) (λ x p. p ≤ length input + 1) (parsed config input lent)
+parsed-placed : (config : Config) (input : List ℕ) (lent : Lent) → Ends (λ v u. Unit) (λ x p. p ≤ length input + 1) (parsed config input lent)
 parsed-placed config [] lent = accepts tt
 parsed-placed config (b ∷ s) lent =
     let env = lending lent in
@@ -37,11 +37,16 @@ outcome-placed : (words bytes n : ℕ) {a : Answer} → Ends (λ v u. Unit) (λ 
 outcome-placed words bytes n (accepts u) = omega arith
 outcome-placed words bytes n (refusesAt h) = h
 
+-- A reading that refusals 1 to 3 don't stand against.
+pub read-placed : (config : Config) (input : List ℕ) (lent : Lent) (words bytes : ℕ)
+    → (outcome words bytes (parsed config input lent)) .answer .place ≤ length input + 1
+read-placed config input lent words bytes = outcome-placed words bytes (length input + 1) (parsed-placed config input lent)
+
 pub placed : Placed
 placed config input words text =
     reading-cases (λ o. InPlace input (o .answer .place)) config input words text (unmoved input) (unmoved input) (λ few. unmoved input)
     (λ short h.
-    let p = outcome-placed (length words) (length text) (length input + 1) (parsed-placed config input (lentBy words text)) in
+    let p = read-placed config input (lentBy words text) (length words) (length text) in
     record { inside = p; bounded = omega arith })
   where
     unmoved : (input : List ℕ) → InPlace input 0
