@@ -15,11 +15,12 @@ use Rattle.records.specs.Adding.{Change, Leaves, appended}
 use Rattle.records.specs.Nodes.{Nodes, node, plug}
 use Rattle.records.specs.Holds.{Holds}
 use Rattle.records.proofs.Held.{other-text}
-use Rattle.reading.specs.Values.{Value}
+use Rattle.reading.specs.Values.{Node}
 use Rattle.reading.specs.Leaves.{Leaf}
 use Rattle.refusals.specs.declared.Refusal.the-variants.{TooFewRecords, TooLittleText}
-use Rattle.reading.specs.Charging.{Lent, Made, over}
-use Rattle.reading.specs.Adding.{leafText, valueAt, appendValue, atPath}
+use Rattle.reading.specs.Charging.{Lent, Environment, Made, over}
+use Rattle.reading.specs.Charging
+use Rattle.reading.specs.Adding.{leafText, valueAt, appendValue}
 use Rattle.reading.specs.Shape.{Shaped}
 use Rattle.reading.specs.Covering.{gives}
 use Rattle.reading.proofs.Results.{Each, All}
@@ -33,12 +34,12 @@ use Rattle.tree.specs.declared.adding.LeafKind.the-variants.{Null, NoVal
 use Rattle.tree.specs.Nodes.{valueWords, recordOf, below, rooted}
 use Rattle.tree.specs.Leaves.{leafOf, newValueWords}
 use Rattle.tree.specs.Laying.{layAnswer, laid}
-use Rattle.tree.specs.Stored.{Leads, Stands}
-use Rattle.tree.specs.Commands.{After, stood, stopped, Does, appends, stays}
+use Rattle.tree.specs.Stored.{Leads, put, usedBy, Stands}
+use Rattle.tree.specs.Commands.{After, stood, stopped, Does, along, appends, stays}
 use Rattle.tree.proofs.Lays.{lay-yes, lay-no, laid-short, laid-full, length-laid}
 use Rattle.tree.proofs.Paths.{changed}
 use Rattle.tree.proofs.Standing.{same-lent, at-node, at-text, at-end}
-use Rattle.tree.proofs.Appends.{Agree, good, few, little, agree}
+use Rattle.tree.proofs.Appends.{RowKept, rowKept, appends-keep, Agree, good, few, little, agree}
 
 leaf-words : (kind : LeafKind) (raw : List ℕ) (o : ℕ) → valueWords (valueAt (leafOf kind raw) o) ≡ newValueWords kind o (length (leafText (leafOf kind raw)))
 leaf-words Null raw o = refl
@@ -49,7 +50,7 @@ leaf-words String raw o = refl
 used-or-few : {A : Type 0} {u : ℕ} → Used u ≡ TooFew → A
 used-or-few e = absurd (let z : _≡_ {A = ℕ} 0 1 = cc in omega arith)
 
-module _ {lent : Lent} {ws text : List ℕ} {here : Here} {p : List Key} {v : Value} {t : List ℕ} (s : Stands lent ws text here p v t) (x : Leaf)
+module _ {env : Environment} {ws text : List ℕ} {here : Here} {p : List Key} {v : Node} {t : List ℕ} (s : Stands env ws text here p v t) (x : Leaf)
     (text' zs : List ℕ) (full : text' ≡ t ++ zs) (long : length text' ≡ length text) (c : ValueWords) where
   abbrev i : Leads p v (here .node)
   i = s .leads
@@ -57,42 +58,45 @@ module _ {lent : Lent} {ws text : List ℕ} {here : Here} {p : List Key} {v : Va
   abbrev change : Change
   change = appended (recordCount ws) ws text' (here .records) (here .node) c
 
-  abbrev T : Value → Nodes
-  T y = plug (i .around) (node (here .node) (recordOf (i .label) y) (below y) (i .rest))
+  abbrev T : Node → Nodes
+  T y = plug (i .around) (node (here .node) (recordOf (y .row) (y .value)) (below (y .value)) (i .rest))
 
-  agreed : Agree text' lent x t c change T (appendValue lent x (i .at) (here .records) t)
+  abbrev before : Charging.Used
+  before = usedBy here t
+
+  agreed : Agree text' env x t c change T (appendValue env x (i .row) (i .value) before)
   agreed =
-      agree ws text' (here .records) lent x t zs c (ap (λ (l : Lent). l .records) (s .lent-is)) full (recordCount ws)
-      (i .at) (here .node) (i .label) (i .around) (i .rest)
+      agree ws text' (here .records) env x t zs c (ap (λ (l : Lent). l .records) (s .lent-is)) full (recordCount ws)
+      (i .value) (here .node) (i .row) (i .around) (i .rest)
       (other-text (at-node (s .stores) i) text' long) (at-text (s .stores) i) (omega arith)
 
-  rule-is : atPath p (appendValue lent x) v (here .records) t ≡ over (i .back) (appendValue lent x (i .at) (here .records) t)
-  rule-is = ap (λ (y : Value). atPath p (appendValue lent x) y (here .records) t) (i .whole) ∙ i .does (i .at) (appendValue lent x) (here .records) t
+  rule-is : along p (appendValue env x) v before ≡ over (i .back) (appendValue env x (i .row) (i .value) before)
+  rule-is = ap (λ (y : Node). along p (appendValue env x) y before) (i .whole) ∙ i .does (i .value) (appendValue env x) before
 
   module _ {ws' : List ℕ} {a : Appended} (is : Leaves change ws' a) where
     abbrev Goal : Performed → Type 0
-    Goal r = After lent ws' text' p r (atPath p (appendValue lent x) v (here .records) t)
+    Goal r = After env ws' text' p r (along p (appendValue env x) v (usedBy here t))
 
-    to : {r : Performed} → After lent ws' text' p r (over (i .back) (appendValue lent x (i .at) (here .records) t)) → Goal r
-    to {r} g = subst (λ (m : Made Value). After lent ws' text' p r m) (sym rule-is) g
+    to : {r : Performed} → After env ws' text' p r (over (i .back) (appendValue env x (i .row) (i .value) before)) → Goal r
+    to {r} g = subst (λ (m : Made Node). After env ws' text' p r m) (sym rule-is) g
 
     -- Too few records.
     pub few-left : a ≡ TooFew → Goal (Refused TooFewRecords)
     few-left q = to (go agreed)
       where
-        go : {m : Made Value} → Agree text' lent x t c change T m → After lent ws' text' p (Refused TooFewRecords) (over (i .back) m)
+        go : {m : Made Node} → Agree text' env x t c change T m → After env ws' text' p (Refused TooFewRecords) (over (i .back) m)
         go (good l b h) = used-or-few (sym b ∙ sym (is .1) ∙ q)
         go (few b) = stopped
         go (little l b) = used-or-few (sym b ∙ sym (is .1) ∙ q)
 
-    bytes-lent : lent .bytes ≡ length text
+    bytes-lent : env .lent .bytes ≡ length text
     bytes-lent = ap (λ (l : Lent). l .bytes) (s .lent-is)
 
     -- Too little text.
     pub little-left : {u : ℕ} → a ≡ Used u → length text < here .bytes + length (leafText x) → Goal (Refused TooLittleText)
     little-left q l = to (go agreed)
       where
-        go : {m : Made Value} → Agree text' lent x t c change T m → After lent ws' text' p (Refused TooLittleText) (over (i .back) m)
+        go : {m : Made Node} → Agree text' env x t c change T m → After env ws' text' p (Refused TooLittleText) (over (i .back) m)
         go (good g b h) = absurd (omega (arith, s .stores .fill, bytes-lent))
         go (few b) = used-or-few (sym q ∙ is .1 ∙ b)
         go (little g b) = stopped
@@ -103,23 +107,25 @@ module _ {lent : Lent} {ws text : List ℕ} {here : Here} {p : List Key} {v : Va
         → Goal (MadeHere (record { records = u; bytes = here .bytes + length (leafText x); node = here .node }))
     added {u} q lw fits full' l =
         to
-        (go agreed (subst (λ (m : Made Value). Each (Adds v (here .records) t) m) rule-is (append-at-adds lent p x v (here .records) t))
-        (subst (λ (m : Made Value). All Shaped m) rule-is (append-at-shaped lent p x v (here .records) t (s .stores .shaped))))
+        (go agreed (appends-keep env x (i .row) (i .value) before)
+        (subst (λ (m : Made Node). Each (Adds v before) m) rule-is (append-at-adds env p x (v .row) (v .value) before))
+        (subst (λ (m : Made Node). All (λ n. Shaped (n .value)) m) rule-is (append-at-shaped env p x (v .row) (v .value) before (s .stores .shaped))))
       where
-        go : {m : Made Value} → Agree text' lent x t c change T m → Each (Adds v (here .records) t) (over (i .back) m) → All Shaped (over (i .back) m)
-            → After lent ws' text' p (MadeHere (record { records = u; bytes = here .bytes + length (leafText x); node = here .node })) (over (i .back) m)
-        go (good {w = w} {u = n} g b h) (gives e) (gives o) =
+        go : {m : Made Node} → Agree text' env x t c change T m → RowKept (i .row) m → Each (Adds v before) (over (i .back) m)
+            → All (λ n. Shaped (n .value)) (over (i .back) m)
+            → After env ws' text' p (MadeHere (record { records = u; bytes = here .bytes + length (leafText x); node = here .node })) (over (i .back) m)
+        go (good {u = n} g b h) (rowKept {w = w}) (gives e) (gives o) =
             let same : Used n ≡ Used u = sym b ∙ sym (is .1) ∙ q in
             let same-used : n ≡ u = cc in
             let filled : here .bytes + length (leafText x) ≡ length (t ++ leafText x) = omega (arith, s .stores .fill, length-append t (leafText x)) in
-            stood {laid = t ++ leafText x} same-used
+            stood same-used
             (record {
               lent-is = s .lent-is ∙ same-lent ws text ws' text' lw long;
               stores =
                   record {
                     holds =
-                        subst (λ (y : ℕ). Holds ws' text' y (rooted (i .back w))) same-used
-                        (subst (λ (y : List ℕ). Holds y text' n (rooted (i .back w))) (sym (is .0))
+                        subst (λ (y : ℕ). Holds ws' text' y (rooted (put i w))) same-used
+                        (subst (λ (y : List ℕ). Holds y text' n (rooted (put i w))) (sym (is .0))
                         (subst (λ (y : Nodes). Holds (change .words) text' n y) (sym (i .is w)) (h fits)));
                     texts = e .texts (s .stores .texts);
                     shaped = o;
@@ -128,8 +134,8 @@ module _ {lent : Lent} {ws text : List ℕ} {here : Here} {p : List Key} {v : Va
                   };
               leads = changed i w;
             })
-        go (few b) e o = used-or-few (sym q ∙ is .1 ∙ b)
-        go (little g b) e o = absurd (omega (arith, s .stores .fill, bytes-lent))
+        go (few b) k e o = used-or-few (sym q ∙ is .1 ∙ b)
+        go (little g b) k e o = absurd (omega (arith, s .stores .fill, bytes-lent))
 
 -- The code's four ways, by its own facts.
 module _ (ws text : List ℕ) (here : Here) (kind : LeafKind) (value : List ℕ) {ws' text' : List ℕ} {d : Decoded} (c : ValueWords) {a : Appended}
@@ -152,7 +158,7 @@ module _ (ws text : List ℕ) (here : Here) (kind : LeafKind) (value : List ℕ)
     fits : here .bytes + length (leafText x) ≤ length text
     fits = lay-yes text (here .bytes) (leafText x) e q .1
 
-    module _ {lent : Lent} {p : List Key} {v : Value} {t : List ℕ} (s : Stands lent ws text here p v t) where
+    module _ {env : Environment} {p : List Key} {v : Node} {t : List ℕ} (s : Stands env ws text here p v t) where
       whole : text' ≡ (t ++ leafText x) ++ replicate (length text' - length (t ++ leafText x)) 0
       whole = rw et (laid-full text t (leafText x) (here .bytes) (s .stores .full) (s .stores .fill) fits)
 
@@ -168,15 +174,15 @@ module _ (ws text : List ℕ) (here : Here) (kind : LeafKind) (value : List ℕ)
           ∙ ap (λ (m : ℕ). newValueWords kind (here .bytes) m) (sym len-is) ∙ sym ec
 
     pub append-made : {u : ℕ} → a ≡ Used u → length ws' ≡ length ws → Promise (MadeHere (record { records = u; bytes = here .bytes + len; node = here .node }))
-    append-made {u} z lw lent p v t s =
+    append-made {u} z lw env p v t s =
         subst
         (λ (n : ℕ).
-        After lent ws' text' p (MadeHere (record { records = u; bytes = here .bytes + n; node = here .node })) (atPath p (appendValue lent x) v (here .records) t))
+        After env ws' text' p (MadeHere (record { records = u; bytes = here .bytes + n; node = here .node })) (along p (appendValue env x) v (usedBy here t)))
         (sym len-is)
         (added s x text' (leafText x ++ replicate (length text' - length (t ++ leafText x)) 0) (split s) (long s) c is z lw (words-are s) (whole s) fits)
 
     pub append-few : a ≡ TooFew → Promise (Refused TooFewRecords)
-    append-few z lent p v t s =
+    append-few z env p v t s =
         few-left s x text' (leafText x ++ replicate (length text' - length (t ++ leafText x)) 0) (split s) (long s) c is z
 
   -- It doesn't fit.
@@ -188,8 +194,8 @@ module _ (ws text : List ℕ) (here : Here) (kind : LeafKind) (value : List ℕ)
     same = et ∙ laid-short text (here .bytes) (leafText x) over-full
 
     pub unfit-little : {u : ℕ} → a ≡ Used u → Promise (Refused TooLittleText)
-    unfit-little z lent p v t s =
+    unfit-little z env p v t s =
         little-left s x text' (replicate (length text - length t) 0) (same ∙ s .stores .full) (ap length same) c is z over-full
 
     pub unfit-few : a ≡ TooFew → Promise (Refused TooFewRecords)
-    unfit-few z lent p v t s = few-left s x text' (replicate (length text - length t) 0) (same ∙ s .stores .full) (ap length same) c is z
+    unfit-few z env p v t s = few-left s x text' (replicate (length text - length t) 0) (same ∙ s .stores .full) (ap length same) c is z

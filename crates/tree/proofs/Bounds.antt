@@ -11,12 +11,13 @@ use Rattle.decode.proofs.Loops.{decoded-le}
 use Rattle.records.specs.declared.keys.RawKey.{RawKey}
 use Rattle.records.specs.declared.keys.RawKey.the-variants.{Int, String as StringKey}
 use Rattle.records.specs.Keys.{meantKey}
-use Rattle.reading.specs.Values.{Value, map, child}
-use Rattle.reading.specs.Charging.{Lent, Made, Rule, charge}
-use Rattle.reading.specs.Adding.{keyText, leafText, enterKey, atPath}
-use Rattle.reading.specs.Reading.{lentBy}
+use Rattle.reading.specs.Values.{child, Node}
+use Rattle.reading.specs.Charging.{Environment, Used, Made, Rule, NodeRule, charge}
+use Rattle.reading.specs.Adding.{mapAt, keyText, leafText, enterKey, atPath}
+use Rattle.reading.specs.Reading.{lentBy, lending}
 use Rattle.reading.specs.Covering.{gives, refuses}
 use Rattle.reading.proofs.Results.{Each, gives-over, each-charge}
+use Rattle.reading.proofs.Changes.{newEntry}
 use Rattle.reading.proofs.Rules.{Obeys, Passes, at-path, Entering, enter-obeys}
 use Rattle.tree.specs.declared.Here.{Here}
 use Rattle.tree.specs.declared.Performed.{Performed}
@@ -25,7 +26,7 @@ use Rattle.tree.specs.declared.adding.LeafKind.{LeafKind}
 use Rattle.tree.specs.declared.adding.LeafKind.the-variants.{Null, NoValue, String}
 use Rattle.tree.specs.Leaves.{leafOf}
 use Rattle.tree.specs.Laying.{layAnswer}
-use Rattle.tree.specs.Stored.{Standing}
+use Rattle.tree.specs.Stored.{usedBy, Standing}
 use Rattle.tree.specs.Commands.{After, stood, stopped, Does, enters, further, Modest}
 use Rattle.tree.proofs.Lays.{lay-yes}
 
@@ -49,35 +50,35 @@ pub leaf-laid-le : (text : List ℕ) (used : ℕ) (kind : LeafKind) (raw : List 
 leaf-laid-le text used kind raw e q = omega (arith, leaf-le kind raw, lay-yes text used (leafText (leafOf kind raw)) e q .0)
 
 -- A rule that adds at most two records and b bytes.
-abbrev Little : ℕ → {A : Type 0} → ℕ → List ℕ → Made A → Type 0
-Little b n t r = Each (λ a m u. (m ≤ n + 2) × (length u ≤ length t + b)) r
+abbrev Little : ℕ → {A : Type 0} → Used → Made A → Type 0
+Little b u r = Each (λ a w. (w .records ≤ u .records + 2) × (length (w .text) ≤ length (u .text) + b)) r
 
 module _ (b : ℕ) where
-  passes : Passes (λ v n t r. Little b n t r) (λ k cs n t r. Little b n t r)
+  passes : Passes (λ l v u r. Little b u r) (λ k cs u r. Little b u r)
   passes =
       record {
-        here = λ k m l v cs n t r e h. gives-over (λ w. child m l w cs) (λ w i u q. q) h;
-        later = λ k m l v cs n t r e h. gives-over (child m l v) (λ ds i u q. q) h;
-        inMap = λ k cs n t r h. gives-over map (λ ds i u q. q) h;
-        toMap = λ k n t r h. gives-over map (λ ds i u q. q) h;
-        unfit = λ v n t u. refuses tt;
+        here = λ k m l v cs u r e h. gives-over (λ w. child m (w .row) (w .value) cs) (λ w z q. q) h;
+        later = λ k m l v cs u r e h. gives-over (child m l v) (λ ds z q. q) h;
+        inMap = λ k l cs u r h. gives-over (mapAt l) (λ ds z q. q) h;
+        toMap = λ k l u r h. gives-over (mapAt l) (λ ds z q. q) h;
+        unfit = λ l v u x. refuses tt;
       }
 
-  along : (p : List Key) (rule : Rule Value) → Obeys (λ v n t r. Little b n t r) rule → Obeys (λ v n t r. Little b n t r) (atPath p rule)
-  along = at-path passes (λ v n t. refuses tt) (λ k cs n t. refuses tt)
+  at-any : (p : List Key) (rule : NodeRule) → Obeys (λ l v u r. Little b u r) rule → Obeys (λ l v u r. Little b u r) (atPath p rule)
+  at-any = at-path passes (λ l v u. refuses tt) (λ k cs u. refuses tt)
 
-  module _ (lent : Lent) where
-    charged : {A : Type 0} (k : ℕ) (x : List ℕ) (a : A) (n : ℕ) (t : List ℕ) → k ≤ 2 → length x ≤ b → Little b n t (charge lent k x a n t)
-    charged k x a n t h l = each-charge lent k x a n t (λ w. (omega arith, omega (arith, length-append t x)))
+  module _ (env : Environment) where
+    charged : {A : Type 0} (k : ℕ) (x : List ℕ) (a : A) (u : Used) → k ≤ 2 → length x ≤ b → Little b u (charge env k x a u)
+    charged k x a u h l = each-charge env k x a u (λ w. (omega arith, omega (arith, length-append (u .text) x)))
 
-    entering : Entering lent (λ k. length (keyText k) ≤ b) (λ v n t r. Little b n t r) (λ k cs n t r. Little b n t r)
+    entering : Entering env (λ k. length (keyText k) ≤ b) (λ l v u r. Little b u r) (λ k cs u r. Little b u r)
     entering =
         record {
           passes = passes;
-          same = λ v n t. gives {n = n} {t = t} (omega arith, omega arith);
-          entered = λ k g cs n t e. charged 1 (keyText k) _ n t (omega arith) g;
-          newMap = λ n t. gives {n = n} {t = t} (omega arith, omega arith);
-          newSequence = λ n t. gives {n = n} {t = t} (omega arith, omega arith);
+          same = λ l v u. gives {u = u} (omega arith, omega arith);
+          entered = λ k g cs u e. charged 1 (keyText k) (newEntry k cs u) u (omega arith) g;
+          newMap = λ l u. gives {u = u} (omega arith, omega arith);
+          newSequence = λ l u. gives {u = u} (omega arith, omega arith);
         }
 
 -- Of a command that made something.
@@ -86,12 +87,15 @@ pub made-modest : (here : Here) (k : ℕ) {there : Here} {r : Performed} → Mod
 made-modest here k m e = subst (λ (y : Performed). Modest here k y) e m
 
 -- A function that does as such a rule is modest.
-module _ {ws text ws' text' : List ℕ} {here : Here} (b : ℕ) (rule : Lent → List Key → Rule Value) (to : List Key → List Key)
-    (little : (lent : Lent) (p : List Key) (v : Value) (n : ℕ) (t : List ℕ) → Little b n t (rule lent p v n t)) where
+module _ {ws text ws' text' : List ℕ} {here : Here} (b : ℕ) (rule : Environment → List Key → Rule Node) (to : List Key → List Key)
+    (little : (env : Environment) (p : List Key) (v : Node) (u : Used) → Little b u (rule env p v u)) where
   modest : {r : Performed} → Standing ws text here → Does ws text ws' text' here rule to r → Modest here b r
-  modest {r} s d = go (d (lentBy ws text) (s .path) (s .tree) (s .laid) (s .stands)) (little (lentBy ws text) (s .path) (s .tree) (here .records) (s .laid))
+  modest {r} s d = go (d env (s .path) (s .tree) (s .laid) (s .stands)) (little env (s .path) (s .tree) (usedBy here (s .laid)))
     where
-      go : {r : Performed} {m : Made Value} → After (lentBy ws text) ws' text' (to (s .path)) r m → Little b (here .records) (s .laid) m → Modest here b r
+      env : Environment
+      env = lending (lentBy ws text)
+
+      go : {r : Performed} {m : Made Node} → After env ws' text' (to (s .path)) r m → Little b (usedBy here (s .laid)) m → Modest here b r
       go (stood u st) (gives q) = (omega (arith, q .0), omega (arith, q .1, st .stores .fill, s .stands .stores .fill))
       go stopped q = tt
 
@@ -100,4 +104,5 @@ module _ {ws text ws' text' : List ℕ} {here : Here} {r : Performed} (s : Stand
       → Modest here (length raw) r
   enter-modest key raw d =
       modest (length raw) (enters (meantKey key raw)) (further (meantKey key raw))
-      (λ lent p. along (length raw) p (enterKey lent (meantKey key raw)) (enter-obeys (entering (length raw) lent) (meantKey key raw) (key-le key raw))) s d
+      (λ env p v u.
+      at-any (length raw) p (enterKey env (meantKey key raw)) (enter-obeys (entering (length raw) env) (meantKey key raw) (key-le key raw)) (v .row) (v .value) u) s d

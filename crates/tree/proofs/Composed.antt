@@ -7,167 +7,224 @@ use native.Mathlib.Omega.{arith}
 use native.Mathlib.Decide.{decLt}
 use lib.ListN.{length, length-append}
 use borrow.Author.Tests.{lt-ltb, le-ltb}
+use Rattle.refusals.specs.declared.Refusal.{Refusal}
 use Rattle.key.specs.Keys.{Key}
-use Rattle.reading.specs.Values.{Label, labelKey, Value, uninitialized, null, noValue, string, map, sequence, Forest, none, child}
+use Rattle.reading.specs.Values.{Row, rowKey, Value, uninitialized, null, noValue, string, map, sequence, Forest, none, child, Node, at}
 use Rattle.reading.specs.Leaves.{Leaf}
 use Rattle.key.specs.KeyOrder.{compareKeys, choose}
-use Rattle.reading.specs.Charging.{Lent, Made, made, refused, Rule, over, bind}
-use Rattle.reading.specs.Adding.{expectMap, expectSequence, keyText, leafText, insertNew, enterNew, push, appendValue, atEntry, insertUnique, unchanged, enterKey, noPath, atPath}
+use Rattle.reading.specs.Charging.{Environment, Used, Made, made, refused, Rule, NodeRule, over, bind}
+use Rattle.reading.specs.Adding.{mapAt, expectMap, expectSequence, becomeMap, becomeSequence, keyText, leafText, insertNew, enterNew, appendValue, atEntry, inMap, insertUnique, unchanged, enterKey, pushLast, noPath, atPath}
 use Rattle.reading.specs.Scanning.{under, last, enter, needMap, needSequence, add}
 use Rattle.reading.specs.Running.{perform}
 use Rattle.reading.proofs.Labels.{compare-label}
-use Rattle.tree.proofs.Paths.{entry-same, path-same, path-further}
+use Rattle.tree.specs.Commands.{along}
+use Rattle.tree.proofs.Paths.{SameRule, entry-same, path-same, path-further}
 
--- One rule, and then another.
-abbrev followed : {A : Type 0} → Rule A → Rule A → Rule A
-followed f g a u t = bind (f a u t) g
+-- One rule at a record, and then another there.
+abbrev followed : NodeRule → NodeRule → NodeRule
+followed f g l v u = bind (f l v u) (λ n. g (n .row) (n .value))
 
-bind-same : {A B : Type 0} (m : Made A) (f g : A → ℕ → List ℕ → Made B) → ((a : A) (u : ℕ) (t : List ℕ) → f a u t ≡ g a u t) → bind m f ≡ bind m g
-bind-same (made a u t) f g e = e a u t
+bind-same : {A B : Type 0} (m : Made A) (f g : A → Used → Made B) → ((a : A) (u : Used) → f a u ≡ g a u) → bind m f ≡ bind m g
+bind-same (made a u) f g e = e a u
 bind-same (refused x) f g e = refl
 
 -- A change of what the first makes that the second passes through.
-bind-over : {A B : Type 0} (h : A → B) (f : Rule A) (g : Rule B) → ((a : A) (u : ℕ) (t : List ℕ) → g (h a) u t ≡ over h (f a u t))
+bind-over : {A B : Type 0} (h : A → B) (f : Rule A) (g : Rule B) → ((a : A) (u : Used) → g (h a) u ≡ over h (f a u))
     → (m : Made A) → over h (bind m f) ≡ bind (over h m) g
-bind-over h f g e (made a u t) = sym (e a u t)
+bind-over h f g e (made a u) = sym (e a u)
 bind-over h f g e (refused x) = refl
 
--- At a child: the same child again.
-module _ (k : Key) (g : Rule Value) (new : Rule Forest) (m : ℕ) (l : Label) where
-  at-child : (cs : Forest) → compareKeys k (labelKey l) ≡ Ordering·eq
-      → (w : Value) (u : ℕ) (t : List ℕ) → atEntry k g new (child m l w cs) u t ≡ over (λ v. child m l v cs) (g w u t)
-  at-child cs q w u t = rw q
+-- What is made at a child keeps its key.
+pub data Keyed (k : Key) : Made Node → Type 0 where
+  keyed : {n : Node} {u : Used} → compareKeys k (rowKey (n .row)) ≡ Ordering·eq → Keyed k (made n u)
+  unmade : {x : Refusal} → Keyed k (refused x)
 
-  past-child : (v : Value) → compareKeys k (labelKey l) ≡ Ordering·gt
-      → (cs : Forest) (u : ℕ) (t : List ℕ) → atEntry k g new (child m l v cs) u t ≡ over (child m l v) (atEntry k g new cs u t)
-  past-child v q cs u t = rw q
+-- At a child: the same child again.
+at-child : (k : Key) (g : NodeRule) (new : Rule Forest) (m : ℕ) (cs : Forest) (n : Node) → compareKeys k (rowKey (n .row)) ≡ Ordering·eq
+    → (u : Used) → atEntry k g new (child m (n .row) (n .value) cs) u ≡ over (λ w. child m (w .row) (w .value) cs) (g (n .row) (n .value) u)
+at-child k g new m cs n q u = rw q
+
+past-child : (k : Key) (g : NodeRule) (new : Rule Forest) (m : ℕ) (l : Row) (v : Value) → compareKeys k (rowKey l) ≡ Ordering·gt
+    → (cs : Forest) (u : Used) → atEntry k g new (child m l v cs) u ≡ over (child m l v) (atEntry k g new cs u)
+past-child k g new m l v q cs u = rw q
+
+-- A rule at a child, and then another there.
+child-then : (k : Key) (g : NodeRule) (m : ℕ) (cs : Forest) (r : Made Node) → Keyed k r
+    → over (λ w. child m (w .row) (w .value) cs) (bind r (λ n. g (n .row) (n .value)))
+    ≡ bind (over (λ w. child m (w .row) (w .value) cs) r) (atEntry k g noPath)
+child-then k g m cs (made n u) (keyed q) = sym (at-child k g noPath m cs n q u)
+child-then k g m cs (refused x) unmade = refl
+
+-- A rule that keeps the key of every record.
+abbrev pub KeepsKey : NodeRule → Type 0
+KeepsKey f = (k : Key) (l : Row) (v : Value) (u : Used) → compareKeys k (rowKey l) ≡ Ordering·eq → Keyed k (f l v u)
 
 -- A rule at an entry, vacant or not, and then another, where no new child is left out of account.
-entry-then : (k : Key) (f g : Rule Value) (h : Rule Value) (new both : Rule Forest)
-    → ((v : Value) (u : ℕ) (t : List ℕ) → h v u t ≡ bind (f v u t) g)
-    → ((cs : Forest) (u : ℕ) (t : List ℕ) → both cs u t ≡ bind (new cs u t) (atEntry k g noPath))
-    → (cs : Forest) (u : ℕ) (t : List ℕ) → atEntry k h both cs u t ≡ bind (atEntry k f new cs u t) (atEntry k g noPath)
-entry-then k f g h new both e n none u t = n none u t
-entry-then k f g h new both e n (child m l v cs) u t = go (compareKeys k (labelKey l)) refl (entry-then k f g h new both e n cs u t)
+entry-then : (k : Key) (f g h : NodeRule) (new both : Rule Forest) → KeepsKey f
+    → ((l : Row) (v : Value) (u : Used) → h l v u ≡ followed f g l v u)
+    → ((cs : Forest) (u : Used) → both cs u ≡ bind (new cs u) (atEntry k g noPath))
+    → (cs : Forest) (u : Used) → atEntry k h both cs u ≡ bind (atEntry k f new cs u) (atEntry k g noPath)
+entry-then k f g h new both c e n none u = n none u
+entry-then k f g h new both c e n (child m l v cs) u = go (compareKeys k (rowKey l)) refl (entry-then k f g h new both c e n cs u)
   where
-    go : (o : Ordering) → compareKeys k (labelKey l) ≡ o → atEntry k h both cs u t ≡ bind (atEntry k f new cs u t) (atEntry k g noPath)
-        → choose o (both (child m l v cs) u t) (over (λ w. child m l w cs) (h v u t)) (over (child m l v) (atEntry k h both cs u t))
-        ≡ bind (choose o (new (child m l v cs) u t) (over (λ w. child m l w cs) (f v u t)) (over (child m l v) (atEntry k f new cs u t))) (atEntry k g noPath)
-    go Ordering·lt q i = n (child m l v cs) u t
+    go : (o : Ordering) → compareKeys k (rowKey l) ≡ o → atEntry k h both cs u ≡ bind (atEntry k f new cs u) (atEntry k g noPath)
+        → choose o (both (child m l v cs) u) (over (λ w. child m (w .row) (w .value) cs) (h l v u)) (over (child m l v) (atEntry k h both cs u))
+        ≡ bind (choose o (new (child m l v cs) u) (over (λ w. child m (w .row) (w .value) cs) (f l v u)) (over (child m l v) (atEntry k f new cs u)))
+        (atEntry k g noPath)
+    go Ordering·lt q i = n (child m l v cs) u
     go Ordering·eq q i =
-        ap (over (λ (w : Value). child m l w cs)) (e v u t)
-        ∙ bind-over (λ (w : Value). child m l w cs) g (atEntry k g noPath) (at-child k g noPath m l cs q) (f v u t)
+        ap (over (λ (w : Node). child m (w .row) (w .value) cs)) (e l v u) ∙ child-then k g m cs (f l v u) (c k l v u q)
     go Ordering·gt q i =
         ap (over (child m l v)) i
-        ∙ bind-over (child m l v) (atEntry k g noPath) (atEntry k g noPath) (past-child k g noPath m l v q) (atEntry k f new cs u t)
+        ∙ bind-over (child m l v) (atEntry k g noPath) (atEntry k g noPath) (past-child k g noPath m l v q) (atEntry k f new cs u)
+
+-- What is made of a Map at a row keeps the key.
+over-keyed : (k : Key) (l : Row) (wrap : Forest → Value) (r : Made Forest) → compareKeys k (rowKey l) ≡ Ordering·eq → Keyed k (over (λ cs. at l (wrap cs)) r)
+over-keyed k l wrap (made cs u) q = keyed q
+over-keyed k l wrap (refused x) q = unmade
+
+path-keyed : (p : List Key) (f : NodeRule) → KeepsKey f → KeepsKey (atPath p f)
+path-keyed [] f c k l v u q = c k l v u q
+path-keyed (j ∷ p) f c k l uninitialized u q = unmade
+path-keyed (j ∷ p) f c k l null u q = unmade
+path-keyed (j ∷ p) f c k l noValue u q = unmade
+path-keyed (j ∷ p) f c k l (string o x) u q = unmade
+path-keyed (j ∷ p) f c k l (sequence cs) u q = unmade
+path-keyed (j ∷ p) f c k l (map cs) u q = over-keyed k l map (atEntry j (atPath p f) noPath cs u) q
 
 -- A rule at a path, and then another.
-path-then : (p : List Key) (f g : Rule Value) (v : Value) (u : ℕ) (t : List ℕ) → atPath p (followed f g) v u t ≡ bind (atPath p f v u t) (atPath p g)
-path-then [] f g v u t = bind-same (f v u t) g (atPath [] g) (λ a i s. refl)
-path-then (k ∷ p) f g uninitialized u t = refl
-path-then (k ∷ p) f g null u t = refl
-path-then (k ∷ p) f g noValue u t = refl
-path-then (k ∷ p) f g (string o x) u t = refl
-path-then (k ∷ p) f g (sequence cs) u t = refl
-path-then (k ∷ p) f g (map cs) u t =
-    ap (over map) (entry-then k (atPath p f) (atPath p g) (atPath p (followed f g)) noPath noPath (path-then p f g) (λ ds i s. refl) cs u t)
-    ∙ bind-over map (atEntry k (atPath p g) noPath) (atPath (k ∷ p) g) (λ ds i s. refl) (atEntry k (atPath p f) noPath cs u t)
+path-then : (p : List Key) (f g : NodeRule) → KeepsKey f → (l : Row) (v : Value) (u : Used)
+    → atPath p (followed f g) l v u ≡ bind (atPath p f l v u) (along p g)
+path-then [] f g c l v u = bind-same (f l v u) (λ n. g (n .row) (n .value)) (along [] g) (λ a w. refl)
+path-then (k ∷ p) f g c l uninitialized u = refl
+path-then (k ∷ p) f g c l null u = refl
+path-then (k ∷ p) f g c l noValue u = refl
+path-then (k ∷ p) f g c l (string o x) u = refl
+path-then (k ∷ p) f g c l (sequence cs) u = refl
+path-then (k ∷ p) f g c l (map cs) u =
+    ap (over (mapAt l))
+    (entry-then k (atPath p f) (atPath p g) (atPath p (followed f g)) noPath noPath (path-keyed p f c) (path-then p f g c) (λ ds w. refl) cs u)
+    ∙ bind-over (mapAt l) (atEntry k (atPath p g) noPath) (along (k ∷ p) g) (λ ds w. refl) (atEntry k (atPath p f) noPath cs u)
 
-module _ (lent : Lent) (k : Key) (x : Leaf) where
+-- The rules that are followed by others keep the key.
+unchanged-keyed : KeepsKey unchanged
+unchanged-keyed k l v u q = keyed q
+
+in-map-keyed : (j : Key) (old : NodeRule) (new : Rule Forest) → KeepsKey (inMap j old new)
+in-map-keyed j old new k l uninitialized u q = over-keyed k l map (atEntry j old new none u) q
+in-map-keyed j old new k l null u q = unmade
+in-map-keyed j old new k l noValue u q = unmade
+in-map-keyed j old new k l (string o x) u q = unmade
+in-map-keyed j old new k l (sequence cs) u q = unmade
+in-map-keyed j old new k l (map cs) u q = over-keyed k l map (atEntry j old new cs u) q
+
+map-keyed : KeepsKey becomeMap
+map-keyed k l v u q = over-keyed k l map (expectMap v u) q
+
+sequence-keyed : KeepsKey becomeSequence
+sequence-keyed k l v u q = over-keyed k l sequence (expectSequence v u) q
+
+module _ (env : Environment) (k : Key) (x : Leaf) where
   -- A new key takes the value: a new key entered, whose child becomes the value.
-  new-then : (cs : Forest) (u : ℕ) (t : List ℕ) → insertNew lent k x cs u t ≡ bind (enterNew lent k cs u t) (atEntry k (appendValue lent x) noPath)
-  new-then cs u t =
-      go (decLt (lent .records) (u + 1)) (decLt (lent .bytes) (length t + length (keyText k))) (decLt (lent .bytes) (length t + length (keyText k ++ leafText x)))
+  new-then : (cs : Forest) (u : Used) → insertNew env k x cs u ≡ bind (enterNew env k cs u) (atEntry k (appendValue env x) noPath)
+  new-then cs u =
+      go (decLt (env .lent .records) (u .records + 1)) (decLt (env .lent .bytes) (length t + length (keyText k)))
+      (decLt (env .lent .bytes) (length t + length (keyText k ++ leafText x)))
     where
+      t : List ℕ
+      t = u .text
+
       long : length (keyText k ++ leafText x) ≡ length (keyText k) + length (leafText x)
       long = length-append (keyText k) (leafText x)
 
       longer : length (t ++ keyText k) ≡ length t + length (keyText k)
       longer = length-append t (keyText k)
 
-      go : Dec (lent .records < u + 1) → Dec (lent .bytes < length t + length (keyText k)) → Dec (lent .bytes < length t + length (keyText k ++ leafText x))
-          → insertNew lent k x cs u t ≡ bind (enterNew lent k cs u t) (atEntry k (appendValue lent x) noPath)
-      go (yes a) b c = rw (lt-ltb (lent .records) (u + 1) a)
+      go : Dec (env .lent .records < u .records + 1) → Dec (env .lent .bytes < length t + length (keyText k))
+          → Dec (env .lent .bytes < length t + length (keyText k ++ leafText x))
+          → insertNew env k x cs u ≡ bind (enterNew env k cs u) (atEntry k (appendValue env x) noPath)
+      go (yes a) b c = rw (lt-ltb (env .lent .records) (u .records + 1) a)
       go (no a) (yes b) c =
           rw (
-            le-ltb (lent .records) (u + 1) (omega arith),
-            lt-ltb (lent .bytes) (length t + length (keyText k)) b,
-            lt-ltb (lent .bytes) (length t + length (keyText k ++ leafText x)) (omega (arith, long)),
+            le-ltb (env .lent .records) (u .records + 1) (omega arith),
+            lt-ltb (env .lent .bytes) (length t + length (keyText k)) b,
+            lt-ltb (env .lent .bytes) (length t + length (keyText k ++ leafText x)) (omega (arith, long)),
           )
       go (no a) (no b) (yes c) =
           rw (
-            le-ltb (lent .records) (u + 1) (omega arith),
-            le-ltb (lent .bytes) (length t + length (keyText k)) (omega arith),
-            lt-ltb (lent .bytes) (length t + length (keyText k ++ leafText x)) c,
+            le-ltb (env .lent .records) (u .records + 1) (omega arith),
+            le-ltb (env .lent .bytes) (length t + length (keyText k)) (omega arith),
+            lt-ltb (env .lent .bytes) (length t + length (keyText k ++ leafText x)) c,
             compare-label k (length t),
-            le-ltb (lent .records) (u + 1 + 0) (omega arith),
-            lt-ltb (lent .bytes) (length (t ++ keyText k) + length (leafText x)) (omega (arith, long, longer)),
+            le-ltb (env .lent .records) (u .records + 1 + 0) (omega arith),
+            lt-ltb (env .lent .bytes) (length (t ++ keyText k) + length (leafText x)) (omega (arith, long, longer)),
           )
       go (no a) (no b) (no c) =
-          let e : u + 1 + 0 ≡ u + 1 = omega arith in
+          let e : u .records + 1 + 0 ≡ u .records + 1 = omega arith in
           rw (
-            le-ltb (lent .records) (u + 1) (omega arith),
-            le-ltb (lent .bytes) (length t + length (keyText k)) (omega arith),
-            le-ltb (lent .bytes) (length t + length (keyText k ++ leafText x)) (omega arith),
+            le-ltb (env .lent .records) (u .records + 1) (omega arith),
+            le-ltb (env .lent .bytes) (length t + length (keyText k)) (omega arith),
+            le-ltb (env .lent .bytes) (length t + length (keyText k ++ leafText x)) (omega arith),
             compare-label k (length t),
-            le-ltb (lent .records) (u + 1 + 0) (omega arith),
-            le-ltb (lent .bytes) (length (t ++ keyText k) + length (leafText x)) (omega (arith, long, longer)),
+            le-ltb (env .lent .records) (u .records + 1 + 0) (omega arith),
+            le-ltb (env .lent .bytes) (length (t ++ keyText k) + length (leafText x)) (omega (arith, long, longer)),
             e,
             longer,
             append-assoc t (keyText k) (leafText x),
           )
 
-  in-map : (cs : Forest) (u : ℕ) (t : List ℕ) → over map (atEntry k (appendValue lent x) (insertNew lent k x) cs u t)
-      ≡ bind (over map (atEntry k unchanged (enterNew lent k) cs u t)) (atPath (k ∷ []) (appendValue lent x))
-  in-map cs u t =
-      ap (over map) (entry-then k unchanged (appendValue lent x) (appendValue lent x) (enterNew lent k) (insertNew lent k x) (λ v i s. refl) new-then cs u t)
-      ∙ bind-over map (atEntry k (appendValue lent x) noPath) (atPath (k ∷ []) (appendValue lent x))
-      (λ ds i s. ap (over map) (entry-same k (atPath [] (appendValue lent x)) (appendValue lent x) noPath (λ v j r. refl) ds i s))
-      (atEntry k unchanged (enterNew lent k) cs u t)
+  in-map : (l : Row) (cs : Forest) (u : Used) → over (mapAt l) (atEntry k (appendValue env x) (insertNew env k x) cs u)
+      ≡ bind (over (mapAt l) (atEntry k unchanged (enterNew env k) cs u)) (along (k ∷ []) (appendValue env x))
+  in-map l cs u =
+      ap (over (mapAt l))
+      (entry-then k unchanged (appendValue env x) (appendValue env x) (enterNew env k) (insertNew env k x) unchanged-keyed (λ r v w. refl) new-then cs u)
+      ∙ bind-over (mapAt l) (atEntry k (appendValue env x) noPath) (along (k ∷ []) (appendValue env x))
+      (λ ds w. ap (over (mapAt l)) (entry-same k (atPath [] (appendValue env x)) (appendValue env x) noPath (λ r v z. refl) ds w))
+      (atEntry k unchanged (enterNew env k) cs u)
 
-  insert-here : (v : Value) (u : ℕ) (t : List ℕ) → insertUnique lent k x v u t ≡ bind (enterKey lent k v u t) (atPath (k ∷ []) (appendValue lent x))
-  insert-here uninitialized u t = in-map none u t
-  insert-here null u t = refl
-  insert-here noValue u t = refl
-  insert-here (string o y) u t = refl
-  insert-here (sequence cs) u t = refl
-  insert-here (map cs) u t = in-map cs u t
+  insert-here : SameRule (insertUnique env k x) (followed (enterKey env k) (atPath (k ∷ []) (appendValue env x)))
+  insert-here l uninitialized u = in-map l none u
+  insert-here l null u = refl
+  insert-here l noValue u = refl
+  insert-here l (string o y) u = refl
+  insert-here l (sequence cs) u = refl
+  insert-here l (map cs) u = in-map l cs u
 
-  pub insert-composed : (p : List Key) (v : Value) (u : ℕ) (t : List ℕ)
-      → perform lent (add (under p k) x) v u t ≡ bind (perform lent (enter p k) v u t) (atPath (p ++ (k ∷ [])) (appendValue lent x))
-  insert-composed p v u t =
-      path-same p (insertUnique lent k x) (followed (enterKey lent k) (atPath (k ∷ []) (appendValue lent x))) insert-here v u t
-      ∙ path-then p (enterKey lent k) (atPath (k ∷ []) (appendValue lent x)) v u t
-      ∙ bind-same (atPath p (enterKey lent k) v u t) (atPath p (atPath (k ∷ []) (appendValue lent x))) (atPath (p ++ (k ∷ [])) (appendValue lent x))
-      (λ w i s. sym (path-further p k (appendValue lent x) w i s))
+  pub insert-composed : (p : List Key) (n : Node) (u : Used)
+      → perform env (add (under p k) x) n u ≡ bind (perform env (enter p k) n u) (along (p ++ (k ∷ [])) (appendValue env x))
+  insert-composed p n u =
+      path-same p (insertUnique env k x) (followed (enterKey env k) (atPath (k ∷ []) (appendValue env x))) insert-here (n .row) (n .value) u
+      ∙ path-then p (enterKey env k) (atPath (k ∷ []) (appendValue env x)) (in-map-keyed k unchanged (enterNew env k)) (n .row) (n .value) u
+      ∙ bind-same (atPath p (enterKey env k) (n .row) (n .value) u) (along p (atPath (k ∷ []) (appendValue env x))) (along (p ++ (k ∷ [])) (appendValue env x))
+      (λ w z. sym (path-further p k (appendValue env x) (w .row) (w .value) z))
 
-module _ (lent : Lent) (x : Leaf) where
-  push-here : (v : Value) (u : ℕ) (t : List ℕ) → bind (expectSequence v u t) (push lent x) ≡ bind (over sequence (expectSequence v u t)) (appendValue lent x)
-  push-here uninitialized u t = refl
-  push-here null u t = refl
-  push-here noValue u t = refl
-  push-here (string o y) u t = refl
-  push-here (sequence cs) u t = refl
-  push-here (map cs) u t = refl
+module _ (env : Environment) (x : Leaf) where
+  push-here : SameRule (pushLast env x) (followed becomeSequence (appendValue env x))
+  push-here l uninitialized u = refl
+  push-here l null u = refl
+  push-here l noValue u = refl
+  push-here l (string o y) u = refl
+  push-here l (sequence cs) u = refl
+  push-here l (map cs) u = refl
 
-  pub push-composed : (p : List Key) (v : Value) (u : ℕ) (t : List ℕ)
-      → perform lent (add (last p) x) v u t ≡ bind (perform lent (needSequence p) v u t) (atPath p (appendValue lent x))
-  push-composed p v u t =
-      path-same p (λ w i s. bind (expectSequence w i s) (push lent x)) (followed (λ w i s. over sequence (expectSequence w i s)) (appendValue lent x)) push-here v u t
-      ∙ path-then p (λ w i s. over sequence (expectSequence w i s)) (appendValue lent x) v u t
+  pub push-composed : (p : List Key) (n : Node) (u : Used)
+      → perform env (add (last p) x) n u ≡ bind (perform env (needSequence p) n u) (along p (appendValue env x))
+  push-composed p n u =
+      path-same p (pushLast env x) (followed becomeSequence (appendValue env x)) push-here (n .row) (n .value) u
+      ∙ path-then p becomeSequence (appendValue env x) sequence-keyed (n .row) (n .value) u
 
 -- A key entered is a map needed, and the key entered there.
-module _ (lent : Lent) (k : Key) where
-  enter-here : (v : Value) (u : ℕ) (t : List ℕ) → enterKey lent k v u t ≡ bind (over map (expectMap v u t)) (enterKey lent k)
-  enter-here uninitialized u t = refl
-  enter-here null u t = refl
-  enter-here noValue u t = refl
-  enter-here (string o y) u t = refl
-  enter-here (sequence cs) u t = refl
-  enter-here (map cs) u t = refl
+module _ (env : Environment) (k : Key) where
+  enter-here : SameRule (enterKey env k) (followed becomeMap (enterKey env k))
+  enter-here l uninitialized u = refl
+  enter-here l null u = refl
+  enter-here l noValue u = refl
+  enter-here l (string o y) u = refl
+  enter-here l (sequence cs) u = refl
+  enter-here l (map cs) u = refl
 
-  pub enter-composed : (p : List Key) (v : Value) (u : ℕ) (t : List ℕ)
-      → perform lent (enter p k) v u t ≡ bind (perform lent (needMap p) v u t) (atPath p (enterKey lent k))
-  enter-composed p v u t =
-      path-same p (enterKey lent k) (followed (λ w i s. over map (expectMap w i s)) (enterKey lent k)) enter-here v u t
-      ∙ path-then p (λ w i s. over map (expectMap w i s)) (enterKey lent k) v u t
+  pub enter-composed : (p : List Key) (n : Node) (u : Used)
+      → perform env (enter p k) n u ≡ bind (perform env (needMap p) n u) (along p (enterKey env k))
+  enter-composed p n u =
+      path-same p (enterKey env k) (followed becomeMap (enterKey env k)) enter-here (n .row) (n .value) u
+      ∙ path-then p becomeMap (enterKey env k) map-keyed (n .row) (n .value) u

@@ -30,10 +30,10 @@ use Rattle.records.proofs.Rows.{length-linked, length-withWords}
 use Rattle.records.proofs.Held.{position-is, other-text}
 use Rattle.records.proofs.Seeking.{seekNode, insertNode, keyStands}
 use Rattle.records.proofs.Grown.{insert-holds}
-use Rattle.reading.specs.Values.{Value, uninitialized, map, Forest, child}
+use Rattle.reading.specs.Values.{uninitialized, map, Forest, child, Node}
 use Rattle.refusals.specs.declared.Refusal.the-variants.{TooFewRecords, TooLittleText}
-use Rattle.reading.specs.Charging.{Lent, Made, made, over, bind, charge}
-use Rattle.reading.specs.Adding.{expectMap, keyText, labelAt, enterNew, atEntry, unchanged, enterKey, atPath}
+use Rattle.reading.specs.Charging.{Lent, Environment, more, Made, made, over, bind, charge}
+use Rattle.reading.specs.Adding.{mapAt, expectMap, keyText, labelAt, rowAt, enterNew, atEntry, unchanged, enterKey}
 use Rattle.reading.specs.Laid.{LaidAll}
 use Rattle.reading.specs.Scanning.{enter}
 use Rattle.reading.specs.Running.{perform}
@@ -46,7 +46,7 @@ use Rattle.tree.specs.Nodes.{labelWords, recordOf, nodes, rooted}
 use Rattle.tree.specs.Needing.{mapAnswer, becomes}
 use Rattle.tree.specs.Laying.{layAnswer, laid}
 use Rattle.tree.specs.Entering.{newKeyWords, Entered}
-use Rattle.tree.specs.Stored.{Stores, Leads, Stands}
+use Rattle.tree.specs.Stored.{Stores, Leads, put, usedBy, Stands}
 use Rattle.tree.specs.Commands.{After, stood, stopped, Does, enters, further}
 use Rattle.tree.proofs.Lays.{lay-yes, lay-no, laid-full, length-laid}
 use Rattle.tree.proofs.Entries.{over-over, Occupied, Vacant, occupied, vacant, turns}
@@ -73,13 +73,13 @@ key-inside (str []) text o l = λ e. omega arith
 key-inside (str (b ∷ x)) text o l = λ e. l
 
 -- A key among the children of the map at the end of a path.
-module _ {ws text : List ℕ} {used filled : ℕ} {p : List Key} {v : Value} {t : List ℕ} {n : ℕ} (i : Leads p v n) (cs : Forest)
-    (st : Stores ws text used filled (i .back (map cs)) t) (k : Key) where
-  at-map : Holds ws text used (plug (i .around) (node n (recordOf (i .label) (map cs)) (nodes cs) (i .rest)))
+module _ {ws text : List ℕ} {used filled : ℕ} {p : List Key} {v : Node} {t : List ℕ} {n : ℕ} (i : Leads p v n) (cs : Forest)
+    (st : Stores ws text used filled (put i (map cs)) t) (k : Key) where
+  at-map : Holds ws text used (plug (i .around) (node n (recordOf (i .row) (map cs)) (nodes cs) (i .rest)))
   at-map = subst (λ (q : Nodes). Holds ws text used q) (i .is (map cs)) (st .holds)
 
   sought : {y : Position} → position ws text k n ≡ y → seekNode (keyStands text k) 0 (nodes cs) ≡ y
-  sought e = sym (position-is n (recordOf (i .label) (map cs)) (nodes cs) (i .rest) (i .around) at-map k) ∙ e
+  sought e = sym (position-is n (recordOf (i .row) (map cs)) (nodes cs) (i .rest) (i .around) at-map k) ∙ e
 
   abbrev so-laid : LaidAll t cs
   so-laid = i .texts t (map cs) (st .texts)
@@ -99,28 +99,28 @@ module _ (ws text : List ℕ) (here : Here) (key : RawKey) (raw : List ℕ) {ws1
   abbrev Promise : List ℕ → List ℕ → Performed → Type 0
   Promise ws' text' r = Does ws text ws' text' here (enters (meantKey key raw)) (further (meantKey key raw)) r
 
-  module _ {lent : Lent} {p : List Key} {v : Value} {t : List ℕ} (s : Stands lent ws text here p v t) where
+  module _ {env : Environment} {p : List Key} {v : Node} {t : List ℕ} (s : Stands env ws text here p v t) where
     abbrev i : Leads p v (here .node)
     i = s .leads
 
-    rule-is : (cs : Forest) → expectMap (i .at) (here .records) t ≡ made cs (here .records) t
-        → perform lent (enter p k) v (here .records) t ≡ over (i .back) (over map (atEntry k unchanged (enterNew lent k) cs (here .records) t))
+    rule-is : (cs : Forest) → expectMap (i .value) (usedBy here t) ≡ made cs (usedBy here t)
+        → perform env (enter p k) v (usedBy here t) ≡ over (i .back) (over (mapAt (i .row)) (atEntry k unchanged (enterNew env k) cs (usedBy here t)))
     rule-is cs e =
-        ap (λ (y : Value). atPath p (enterKey lent k) y (here .records) t) (i .whole) ∙ i .does (i .at) (enterKey lent k) (here .records) t
-        ∙ ap (λ (q : Made Forest). over (i .back) (bind q (λ ds u w. over map (atEntry k unchanged (enterNew lent k) ds u w)))) e
+        ap (λ (y : Node). perform env (enter p k) y (usedBy here t)) (i .whole) ∙ i .does (i .value) (enterKey env k) (usedBy here t)
+        ∙ ap (λ (q : Made Forest). over (i .back) (bind q (λ ds u. over (mapAt (i .row)) (atEntry k unchanged (enterNew env k) ds u)))) e
 
   -- The key has a child.
   pub enter-found : {y : Position} → y ≡ position ws1 text (meantKey key raw) (here .node) → {m : ℕ} → y ≡ Found m
       → Promise ws1 text (MadeHere (record { records = here .records; bytes = here .bytes; node = m }))
-  enter-found e {m} q lent p v t s = go (serve mapNeed (s .stores) (s .leads) here er ew)
+  enter-found e {m} q env p v t s = go (serve mapNeed (s .stores) (s .leads) here er ew)
     where
       go : Served mapNeed (s .stores) (s .leads) here er ew
-          → After lent ws1 text (p ++ (k ∷ [])) (MadeHere (record { records = here .records; bytes = here .bytes; node = m }))
-          (perform lent (enter p k) v (here .records) t)
+          → After env ws1 text (p ++ (k ∷ [])) (MadeHere (record { records = here .records; bytes = here .bytes; node = m }))
+          (perform env (enter p k) v (usedBy here t))
       go (unserved x a f) = not-both (sym made-it ∙ a)
       go (served cs a f st) =
-          subst (λ (y : Made Value). After lent ws1 text (p ++ (k ∷ [])) (MadeHere (record { records = here .records; bytes = here .bytes; node = m })) y)
-          (sym (rule-is s cs (f (here .records) t) ∙ stays))
+          subst (λ (y : Made Node). After env ws1 text (p ++ (k ∷ [])) (MadeHere (record { records = here .records; bytes = here .bytes; node = m })) y)
+          (sym (rule-is s cs (f (usedBy here t)) ∙ stays))
           (stood refl
           (record {
             lent-is = s .lent-is ∙ same-lent ws text ws1 text (ap length ew ∙ length-becomes ws (here .node) mapKind) refl;
@@ -131,53 +131,56 @@ module _ (ws text : List ℕ) (here : Here) (key : RawKey) (raw : List ℕ) {ws1
           h : Occupied k cs m
           h = is-occupied (s .leads) cs st k m (sym e ∙ q)
 
-          stays : over (s .leads .back) (over map (atEntry k unchanged (enterNew lent k) cs (here .records) t)) ≡ made (s .leads .back (map cs)) (here .records) t
+          at-row : Forest → Node
+          at-row = mapAt (s .leads .row)
+
+          stays : over (s .leads .back) (over at-row (atEntry k unchanged (enterNew env k) cs (usedBy here t))) ≡ made (put (s .leads) (map cs)) (usedBy here t)
           stays =
-              ap (λ (d : Forest). over (s .leads .back) (over map (atEntry k unchanged (enterNew lent k) d (here .records) t))) (h .whole)
-              ∙ ap (λ (b : Made Forest). over (s .leads .back) (over map b)) (h .does (h .at) unchanged (enterNew lent k) (here .records) t)
-              ∙ ap (λ (d : Forest). made (s .leads .back (map d)) (here .records) t) (sym (h .whole))
+              ap (λ (d : Forest). over (s .leads .back) (over at-row (atEntry k unchanged (enterNew env k) d (usedBy here t)))) (h .whole)
+              ∙ ap (λ (b : Made Forest). over (s .leads .back) (over at-row b)) (h .does (h .value) unchanged (enterNew env k) (usedBy here t))
+              ∙ ap (λ (d : Forest). made (put (s .leads) (map d)) (usedBy here t)) (sym (h .whole))
 
   -- The key is new.
   module _ {y : Position} (e : y ≡ position ws1 text (meantKey key raw) (here .node)) {prev next : ℕ} (q : y ≡ Between prev next) where
-    module _ {lent : Lent} {p : List Key} {v : Value} {t : List ℕ} (s : Stands lent ws text here p v t) (cs : Forest)
-        (f : expectMap (s .leads .at) (here .records) t ≡ made cs (here .records) t)
-        (st : Stores ws1 text (here .records) (here .bytes) (s .leads .back (map cs)) t) where
+    module _ {env : Environment} {p : List Key} {v : Node} {t : List ℕ} (s : Stands env ws text here p v t) (cs : Forest)
+        (f : expectMap (s .leads .value) (usedBy here t) ≡ made cs (usedBy here t))
+        (st : Stores ws1 text (here .records) (here .bytes) (put (s .leads) (map cs)) t) where
       g : Vacant (keyStands text k) k cs
       g = is-vacant (s .leads) cs st k prev next (sym e ∙ q)
 
       abbrev grown : Forest
-      grown = g .back (child (here .records) (labelAt k (length t)) uninitialized (g .later))
+      grown = g .back (child (here .records) (rowAt k (length t)) uninitialized (g .later))
 
-      abbrev new : Value
-      new = s .leads .back (map grown)
+      abbrev new : Node
+      new = put (s .leads) (map grown)
 
-      charged : perform lent (enter p k) v (here .records) t ≡ charge lent 1 (keyText k) new (here .records) t
+      charged : perform env (enter p k) v (usedBy here t) ≡ charge env 1 (keyText k) new (usedBy here t)
       charged =
           rule-is s cs f
-          ∙ ap (λ (b : Made Forest). over (s .leads .back) (over map b)) (g .does unchanged (enterNew lent k) (here .records) t)
-          ∙ ap (over (s .leads .back)) (over-over (g .back) map (enterNew lent k (g .later) (here .records) t))
-          ∙ over-over (λ (d : Forest). map (g .back d)) (s .leads .back) (enterNew lent k (g .later) (here .records) t)
-          ∙ over-charge (λ (d : Forest). s .leads .back (map (g .back d))) lent 1 (keyText k)
-          (child (here .records) (labelAt k (length t)) uninitialized (g .later)) (here .records) t
+          ∙ ap (λ (b : Made Forest). over (s .leads .back) (over (mapAt (s .leads .row)) b)) (g .does unchanged (enterNew env k) (usedBy here t))
+          ∙ ap (over (s .leads .back)) (over-over (g .back) (mapAt (s .leads .row)) (enterNew env k (g .later) (usedBy here t)))
+          ∙ over-over (λ (d : Forest). mapAt (s .leads .row) (g .back d)) (s .leads .back) (enterNew env k (g .later) (usedBy here t))
+          ∙ over-charge (λ (d : Forest). put (s .leads) (map (g .back d))) env 1 (keyText k)
+          (child (here .records) (rowAt k (length t)) uninitialized (g .later)) (usedBy here t)
 
       same-words : length ws1 ≡ length ws
       same-words = ap length ew ∙ length-becomes ws (here .node) mapKind
 
-      records-lent : lent .records ≡ recordCount ws1
+      records-lent : env .lent .records ≡ recordCount ws1
       records-lent = ap (λ (l : Lent). l .records) (s .lent-is) ∙ ap (λ (m : ℕ). m / recordWidth) (sym same-words)
 
-      bytes-lent : lent .bytes ≡ length text
+      bytes-lent : env .lent .bytes ≡ length text
       bytes-lent = ap (λ (l : Lent). l .bytes) (s .lent-is)
 
       abbrev record-of : Record
-      record-of = recordOf (labelAt k (length t)) uninitialized
+      record-of = recordOf (rowAt k (length t)) uninitialized
 
       module _ {ws' text' : List ℕ} (room : here .records + 1 ≤ recordCount ws1) (fits : here .bytes + length (keyText k) ≤ length text)
           (ews : ws' ≡ inserted ws1 (here .records) (here .node) prev next
           (record { key = newKeyWords key (here .bytes) (length (keyText k)); value = childless uninitializedKind }))
           (et : text' ≡ laid text (here .bytes) (keyText k)) where
-        makes : perform lent (enter p k) v (here .records) t ≡ made new (here .records + 1) (t ++ keyText k)
-        makes = charged ∙ charge-made lent 1 (keyText k) new (here .records) t (omega (arith, records-lent)) (omega (arith, bytes-lent, st .fill))
+        makes : perform env (enter p k) v (usedBy here t) ≡ made new (more (usedBy here t) 1 (keyText k))
+        makes = charged ∙ charge-made env 1 (keyText k) new (usedBy here t) (omega (arith, records-lent)) (omega (arith, bytes-lent, st .fill))
 
         long : length text' ≡ length text
         long = ap length et ∙ length-laid text (here .bytes) (keyText k) (omega arith)
@@ -192,36 +195,36 @@ module _ (ws text : List ℕ) (here : Here) (key : RawKey) (raw : List ℕ) {ws1
             (key-words key raw (here .bytes) ∙ ap (λ (o : ℕ). labelWords (labelAt k o)) (st .fill))
 
         shape : rooted new
-            ≡ plug (s .leads .around) (node (here .node) (recordOf (s .leads .label) (map cs)) (insertNode (keyStands text k) (here .records) record-of (nodes cs))
+            ≡ plug (s .leads .around) (node (here .node) (recordOf (s .leads .row) (map cs)) (insertNode (keyStands text k) (here .records) record-of (nodes cs))
             (s .leads .rest))
         shape =
             s .leads .is (map grown)
-            ∙ ap (λ (q : Nodes). plug (s .leads .around) (node (here .node) (recordOf (s .leads .label) (map cs)) q (s .leads .rest)))
-            (g .is (here .records) (labelAt k (length t)) uninitialized refl)
+            ∙ ap (λ (q : Nodes). plug (s .leads .around) (node (here .node) (recordOf (s .leads .row) (map cs)) q (s .leads .rest)))
+            (g .is (here .records) (rowAt k (length t)) uninitialized refl)
 
         held : Holds ws' text' (here .records + 1) (rooted new)
         held =
             other-text
             (subst (λ (q : List ℕ). Holds q text (here .records + 1) (rooted new)) (sym written)
             (subst (λ (q : Nodes). Holds (inserted ws1 (here .records) (here .node) prev next record-of) text (here .records + 1) q) (sym shape)
-            (insert-holds (here .node) (recordOf (s .leads .label) (map cs)) (nodes cs) (s .leads .rest) (s .leads .around) (at-map (s .leads) cs st k) (omega arith)
+            (insert-holds (here .node) (recordOf (s .leads .row) (map cs)) (nodes cs) (s .leads .rest) (s .leads .around) (at-map (s .leads) cs st k) (omega arith)
             record-of (keyStands text k) prev next (sought (s .leads) cs st k (sym e ∙ q)) (key-inside k text (length t) (omega (arith, st .fill))))))
             text' long
 
         abbrev answer : Performed
         answer = MadeHere (record { records = here .records + 1; bytes = here .bytes + length (keyText k); node = here .records })
 
-        entered-new : After lent ws' text' (p ++ (k ∷ [])) answer (perform lent (enter p k) v (here .records) t)
+        entered-new : After env ws' text' (p ++ (k ∷ [])) answer (perform env (enter p k) v (usedBy here t))
         entered-new =
-            subst (λ (m : Made Value). After lent ws' text' (p ++ (k ∷ [])) answer m) (sym makes)
-            (stood {laid = t ++ keyText k} refl
+            subst (λ (m : Made Node). After env ws' text' (p ++ (k ∷ [])) answer m) (sym makes)
+            (stood refl
             (record {
               lent-is = s .lent-is ∙ same-lent ws text ws' text' wide long;
               stores =
                   record {
                     holds = held;
-                    texts = made-laid makes (s .stores .texts) (perform-adds lent (enter p k) v (here .records) t);
-                    shaped = made-shaped makes (perform-shaped lent (enter p k) v (here .records) t (s .stores .shaped));
+                    texts = made-laid makes (s .stores .texts) (perform-adds env (enter p k) v (usedBy here t));
+                    shaped = made-shaped makes (perform-shaped env (enter p k) v (usedBy here t) (s .stores .shaped));
                     full = rw et (laid-full text t (keyText k) (here .bytes) (st .full) (st .fill) fits);
                     fill = omega (arith, st .fill, length-append t (keyText k));
                   };
@@ -229,21 +232,21 @@ module _ (ws text : List ℕ) (here : Here) (key : RawKey) (raw : List ℕ) {ws1
             }))
 
       by-way : {ws' text' : List ℕ} {r : Performed} → Entered ws1 text here prev next key raw ws' text' r
-          → After lent ws' text' (p ++ (k ∷ [])) r (perform lent (enter p k) v (here .records) t)
+          → After env ws' text' (p ++ (k ∷ [])) r (perform env (enter p k) v (usedBy here t))
       by-way {ws'} {text'} (Entered.few l) =
-          subst (λ (m : Made Value). After lent ws' text' (p ++ (k ∷ [])) (Refused TooFewRecords) m)
-          (sym (charged ∙ charge-few lent 1 (keyText k) new (here .records) t (omega (arith, records-lent)))) (stopped)
+          subst (λ (m : Made Node). After env ws' text' (p ++ (k ∷ [])) (Refused TooFewRecords) m)
+          (sym (charged ∙ charge-few env 1 (keyText k) new (usedBy here t) (omega (arith, records-lent)))) (stopped)
       by-way {ws'} {text'} (Entered.little room l) =
-          subst (λ (m : Made Value). After lent ws' text' (p ++ (k ∷ [])) (Refused TooLittleText) m)
-          (sym (charged ∙ charge-little lent 1 (keyText k) new (here .records) t (omega (arith, records-lent)) (omega (arith, bytes-lent, st .fill)))) (stopped)
+          subst (λ (m : Made Node). After env ws' text' (p ++ (k ∷ [])) (Refused TooLittleText) m)
+          (sym (charged ∙ charge-little env 1 (keyText k) new (usedBy here t) (omega (arith, records-lent)) (omega (arith, bytes-lent, st .fill)))) (stopped)
       by-way {ws'} {text'} (Entered.entered room fits ews et) = entered-new room fits ews et
 
     pub enter-new : {ws' text' : List ℕ} {r : Performed} → Entered ws1 text here prev next key raw ws' text' r → Promise ws' text' r
-    enter-new {ws'} {text'} {r} en lent p v t s = go (serve mapNeed (s .stores) (s .leads) here er ew)
+    enter-new {ws'} {text'} {r} en env p v t s = go (serve mapNeed (s .stores) (s .leads) here er ew)
       where
-        go : Served mapNeed (s .stores) (s .leads) here er ew → After lent ws' text' (p ++ (k ∷ [])) r (perform lent (enter p k) v (here .records) t)
+        go : Served mapNeed (s .stores) (s .leads) here er ew → After env ws' text' (p ++ (k ∷ [])) r (perform env (enter p k) v (usedBy here t))
         go (unserved x a f) = not-both (sym made-it ∙ a)
-        go (served cs a f st) = by-way s cs (f (here .records) t) st en
+        go (served cs a f st) = by-way s cs (f (usedBy here t)) st en
 
 -- The one before the place is a record.
 pub prev-inside : {ws text : List ℕ} {n : ℕ} (k : Key) → WellFormed ws text → n < recordCount ws → {y : Position} → y ≡ position ws text k n

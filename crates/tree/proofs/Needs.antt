@@ -17,14 +17,15 @@ use Rattle.records.specs.Adding.{childless}
 use Rattle.records.specs.Nodes.{Nodes, nil, node, plug}
 use Rattle.records.specs.Holds.{Holds}
 use Rattle.records.proofs.Valued.{value-holds, length-withValue}
-use Rattle.reading.specs.Values.{Value, uninitialized, null, noValue, string, map, sequence, Forest, none}
+use Rattle.reading.specs.Values.{Row, Value, uninitialized, null, noValue, string, map, sequence, Forest, none, Node, at}
 use Rattle.refusals.specs.declared.Refusal.{Refusal}
 use Rattle.refusals.specs.declared.Refusal.the-variants.{SequenceOnMap, SequenceOnSingle, MapOnSequence, MapOnString}
 use Rattle.refusals.specs.declared.Refusal.the-variants.{MapOnNull}
-use Rattle.reading.specs.Charging.{Lent, Made, made, refused, over, Rule}
-use Rattle.reading.specs.Adding.{expectMap, expectSequence, atPath}
+use Rattle.reading.specs.Charging.{Environment, Used, Made, made, refused, NodeRule, over}
+use Rattle.reading.specs.Adding.{expectMap, expectSequence}
 use Rattle.reading.specs.Records.{kind}
 use Rattle.reading.specs.Laid.{Laid}
+use Rattle.reading.specs.Reading.{lending}
 use Rattle.reading.specs.Shape.{Shaped}
 use Rattle.reading.specs.Scanning.{needMap, needSequence}
 use Rattle.reading.specs.Covering.{gives}
@@ -36,31 +37,32 @@ use Rattle.tree.specs.declared.Performed.{Performed}
 use Rattle.tree.specs.declared.Performed.the-variants.{Made as MadeHere, Refused}
 use Rattle.tree.specs.Nodes.{labelWords, valueWords, recordOf, below, nodes, rooted}
 use Rattle.tree.specs.Needing.{mapAnswer, sequenceAnswer, becomes}
-use Rattle.tree.specs.Stored.{Stores, Leads, Standing}
-use Rattle.tree.specs.Commands.{After, stood, stopped, Does, stays}
+use Rattle.tree.specs.Stored.{Stores, Leads, put, usedBy, Standing}
+use Rattle.tree.specs.Commands.{After, stood, stopped, Does, along, stays}
 use Rattle.tree.proofs.Paths.{changed}
 use Rattle.tree.proofs.Standing.{same-lent, at-node, at-kind}
 use Rattle.tree.proofs.Chained.{not-both}
 
 -- What a need makes of a value, its children, and what the answer is for its kind.
-pub data Met (wrap : Forest → Value) (needed : Value → ℕ → List ℕ → Made Forest) (answer : Here → ℕ → Performed) (here : Here) : Value → Type 0 where
-  turns : answer here uninitializedKind ≡ MadeHere here → ((u : ℕ) (s : List ℕ) → needed uninitialized u s ≡ made none u s)
+pub data Met (wrap : Forest → Value) (needed : Value → Used → Made Forest) (answer : Here → ℕ → Performed) (here : Here) : Value → Type 0 where
+  turns : answer here uninitializedKind ≡ MadeHere here → ((u : Used) → needed uninitialized u ≡ made none u)
       → Met wrap needed answer here uninitialized
   serves : {v : Value} (cs : Forest) → v ≡ wrap cs → (kind v ≡ uninitializedKind → ⊥) → answer here (kind v) ≡ MadeHere here
-      → ((u : ℕ) (s : List ℕ) → needed v u s ≡ made cs u s) → Met wrap needed answer here v
+      → ((u : Used) → needed v u ≡ made cs u) → Met wrap needed answer here v
   refuses : {v : Value} (x : Refusal) → answer here (kind v) ≡ Refused x
-      → ((u : ℕ) (s : List ℕ) → needed v u s ≡ refused x) → Met wrap needed answer here v
+      → ((u : Used) → needed v u ≡ refused x) → Met wrap needed answer here v
 
 pub record Need : Type 0 where
   pub wrap : Forest → Value
-  pub needed : Value → ℕ → List ℕ → Made Forest
+  pub needed : Value → Used → Made Forest
   pub answer : Here → ℕ → Performed
   pub of-kind : ℕ
   pub words : (cs : Forest) → valueWords (wrap cs) ≡ childless of-kind
   pub under : (cs : Forest) → below (wrap cs) ≡ nodes cs
   pub met : (here : Here) (v : Value) → Met wrap needed answer here v
-  pub adds : (p : List Key) (v : Value) (u : ℕ) (t : List ℕ) → Each (Adds v u t) (atPath p (λ w i s. over wrap (needed w i s)) v u t)
-  pub shapes : (p : List Key) (v : Value) (u : ℕ) (t : List ℕ) → Shaped v → All Shaped (atPath p (λ w i s. over wrap (needed w i s)) v u t)
+  pub adds : (p : List Key) (v : Node) (u : Used) → Each (Adds v u) (along p (λ l w z. over (λ cs. at l (wrap cs)) (needed w z)) v u)
+  pub shapes : (p : List Key) (v : Node) (u : Used) → Shaped (v .value)
+      → All (λ n. Shaped (n .value)) (along p (λ l w z. over (λ cs. at l (wrap cs)) (needed w z)) v u)
 
 pub length-becomes : (ws : List ℕ) (n k : ℕ) → length (becomes ws n k) ≡ length ws
 length-becomes ws n k = go (eqb (word ws n kindWord) uninitializedKind)
@@ -69,90 +71,96 @@ length-becomes ws n k = go (eqb (word ws n kindWord) uninitializedKind)
     go true = length-withValue ws n (childless k)
     go false = refl
 
-pub made-laid : {v w : Value} {n u : ℕ} {t s : List ℕ} {m : Made Value} → m ≡ made w u s → Laid t v → Each (Adds v n t) m → Laid s w
-made-laid {v} {w} {n} {u} {t} {s} {m} e h q = go (subst (λ (y : Made Value). Each (Adds v n t) y) e q)
+pub made-laid : {v w : Node} {n u : Used} {m : Made Node} → m ≡ made w u → Laid (n .text) (v .value) → Each (Adds v n) m → Laid (u .text) (w .value)
+made-laid {v} {w} {n} {u} {m} e h q = go (subst (λ (y : Made Node). Each (Adds v n) y) e q)
   where
-    go : Each (Adds v n t) (made w u s) → Laid s w
+    go : Each (Adds v n) (made w u) → Laid (u .text) (w .value)
     go (gives a) = a .texts h
 
-pub made-shaped : {w : Value} {u : ℕ} {s : List ℕ} {m : Made Value} → m ≡ made w u s → All Shaped m → Shaped w
-made-shaped {w} {u} {s} {m} e q = go (subst (λ (y : Made Value). All Shaped y) e q)
+pub made-shaped : {w : Node} {u : Used} {m : Made Node} → m ≡ made w u → All (λ n. Shaped (n .value)) m → Shaped (w .value)
+made-shaped {w} {u} {m} e q = go (subst (λ (y : Made Node). All (λ n. Shaped (n .value)) y) e q)
   where
-    go : All Shaped (made w u s) → Shaped w
+    go : All (λ n. Shaped (n .value)) (made w u) → Shaped (w .value)
     go (gives a) = a
 
 module _ (need : Need) where
-  abbrev pub rule : Rule Value
-  rule v u t = over (need .wrap) (need .needed v u t)
+  abbrev wrapAt : Row → Forest → Node
+  wrapAt l cs = at l (need .wrap cs)
 
-  module _ {ws text : List ℕ} {used filled : ℕ} {p : List Key} {v : Value} {t : List ℕ} {n : ℕ}
+  abbrev pub rule : NodeRule
+  rule l v u = over (wrapAt l) (need .needed v u)
+
+  module _ {ws text : List ℕ} {used filled : ℕ} {p : List Key} {v : Node} {t : List ℕ} {n : ℕ}
       (k : Stores ws text used filled v t) (i : Leads p v n) (here : Here) {ws' : List ℕ} {r : Performed}
       (er : r ≡ need .answer here (word ws n kindWord)) (ew : ws' ≡ becomes ws n (need .of-kind)) where
+    abbrev before : Used
+    before = record { records = used; text = t }
+
     -- The words then hold the tree with the children held as is needed; or the need is refused.
     pub data Served : Type 0 where
-      served : (cs : Forest) → r ≡ MadeHere here → ((u : ℕ) (s : List ℕ) → need .needed (i .at) u s ≡ made cs u s)
-          → Stores ws' text used filled (i .back (need .wrap cs)) t → Served
-      unserved : (x : Refusal) → r ≡ Refused x → ((u : ℕ) (s : List ℕ) → need .needed (i .at) u s ≡ refused x) → Served
+      served : (cs : Forest) → r ≡ MadeHere here → ((u : Used) → need .needed (i .value) u ≡ made cs u)
+          → Stores ws' text used filled (put i (need .wrap cs)) t → Served
+      unserved : (x : Refusal) → r ≡ Refused x → ((u : Used) → need .needed (i .value) u ≡ refused x) → Served
 
-    rule-is : (m : Made Forest) → need .needed (i .at) used t ≡ m → atPath p rule v used t ≡ over (i .back) (over (need .wrap) m)
+    rule-is : (m : Made Forest) → need .needed (i .value) before ≡ m → along p rule v before ≡ over (i .back) (over (wrapAt (i .row)) m)
     rule-is m e =
-        ap (λ (y : Value). atPath p rule y used t) (i .whole) ∙ i .does (i .at) rule used t
-        ∙ ap (λ (q : Made Forest). over (i .back) (over (need .wrap) q)) e
+        ap (λ (y : Node). along p rule y before) (i .whole) ∙ i .does (i .value) rule before
+        ∙ ap (λ (q : Made Forest). over (i .back) (over (wrapAt (i .row)) q)) e
 
-    stores : (cs : Forest) → need .needed (i .at) used t ≡ made cs used t → Holds ws' text used (rooted (i .back (need .wrap cs)))
-        → Stores ws' text used filled (i .back (need .wrap cs)) t
+    stores : (cs : Forest) → need .needed (i .value) before ≡ made cs before → Holds ws' text used (rooted (put i (need .wrap cs)))
+        → Stores ws' text used filled (put i (need .wrap cs)) t
     stores cs e h =
         record {
           holds = h;
-          texts = made-laid (rule-is (made cs used t) e) (k .texts) (need .adds p v used t);
-          shaped = made-shaped (rule-is (made cs used t) e) (need .shapes p v used t (k .shaped));
+          texts = made-laid (rule-is (made cs before) e) (k .texts) (need .adds p v before);
+          shaped = made-shaped (rule-is (made cs before) e) (need .shapes p v before (k .shaped));
           full = k .full;
           fill = k .fill;
         }
 
-    kind-of : {w : Value} → i .at ≡ w → word ws n kindWord ≡ kind w
+    kind-of : {w : Value} → i .value ≡ w → word ws n kindWord ≡ kind w
     kind-of e = at-kind k i ∙ ap kind e
 
-    needed-of : {w : Value} → i .at ≡ w → {u : ℕ} {s : List ℕ} {m : Made Forest} → need .needed w u s ≡ m → need .needed (i .at) u s ≡ m
-    needed-of e {u} {s} f = ap (λ (y : Value). need .needed y u s) e ∙ f
+    needed-of : {w : Value} → i .value ≡ w → {u : Used} {m : Made Forest} → need .needed w u ≡ m → need .needed (i .value) u ≡ m
+    needed-of e {u} f = ap (λ (y : Value). need .needed y u) e ∙ f
 
-    turned : i .at ≡ uninitialized → Holds ws' text used (rooted (i .back (need .wrap none)))
+    turned : i .value ≡ uninitialized → Holds ws' text used (rooted (put i (need .wrap none)))
     turned e =
-        subst (λ (y : List ℕ). Holds y text used (rooted (i .back (need .wrap none)))) (sym (ew ∙ simp (eq-eqb (word ws n kindWord) uninitializedKind (kind-of e))))
+        subst (λ (y : List ℕ). Holds y text used (rooted (put i (need .wrap none)))) (sym (ew ∙ simp (eq-eqb (word ws n kindWord) uninitializedKind (kind-of e))))
         (subst (λ (q : Nodes). Holds (withValue ws n (childless (need .of-kind))) text used q) (sym shape)
-        (value-holds n (recordOf (i .label) uninitialized) nil (i .rest) (i .around)
-        (subst (λ (y : Value). Holds ws text used (plug (i .around) (node n (recordOf (i .label) y) (below y) (i .rest)))) e (at-node k i))
+        (value-holds n (recordOf (i .row) uninitialized) nil (i .rest) (i .around)
+        (subst (λ (y : Value). Holds ws text used (plug (i .around) (node n (recordOf (i .row) y) (below y) (i .rest)))) e (at-node k i))
         (childless (need .of-kind))))
       where
-        shape : rooted (i .back (need .wrap none))
-            ≡ plug (i .around) (node n (record { key = labelWords (i .label); value = childless (need .of-kind) }) nil (i .rest))
+        shape : rooted (put i (need .wrap none))
+            ≡ plug (i .around) (node n (record { key = labelWords (i .row .label); value = childless (need .of-kind) }) nil (i .rest))
         shape =
             i .is (need .wrap none)
-            ∙ ap₂ (λ (y : ValueWords) (b : Nodes). plug (i .around) (node n (record { key = labelWords (i .label); value = y }) b (i .rest)))
+            ∙ ap₂ (λ (y : ValueWords) (b : Nodes). plug (i .around) (node n (record { key = labelWords (i .row .label); value = y }) b (i .rest)))
             (need .words none) (need .under none)
 
     pub serve : Served
-    serve = go refl (need .met here (i .at))
+    serve = go refl (need .met here (i .value))
       where
-        go : {w : Value} → i .at ≡ w → Met (need .wrap) (need .needed) (need .answer) here w → Served
+        go : {w : Value} → i .value ≡ w → Met (need .wrap) (need .needed) (need .answer) here w → Served
         go e (turns a f) =
-            served none (er ∙ ap (need .answer here) (kind-of e) ∙ a) (λ u s. needed-of e (f u s)) (stores none (needed-of e (f used t)) (turned e))
+            served none (er ∙ ap (need .answer here) (kind-of e) ∙ a) (λ u. needed-of e (f u)) (stores none (needed-of e (f before)) (turned e))
         go e (serves cs w z a f) =
-            served cs (er ∙ ap (need .answer here) (kind-of e) ∙ a) (λ u s. needed-of e (f u s))
-            (stores cs (needed-of e (f used t))
-            (subst (λ (y : List ℕ). Holds y text used (rooted (i .back (need .wrap cs))))
+            served cs (er ∙ ap (need .answer here) (kind-of e) ∙ a) (λ u. needed-of e (f u))
+            (stores cs (needed-of e (f before))
+            (subst (λ (y : List ℕ). Holds y text used (rooted (put i (need .wrap cs))))
             (sym (ew ∙ simp (ne-eqb (word ws n kindWord) uninitializedKind (λ q. z (sym (kind-of e) ∙ q)))))
-            (subst (λ (y : Value). Holds ws text used (rooted y)) (i .whole ∙ ap (i .back) (e ∙ w)) (k .holds))))
-        go e (refuses x a f) = unserved x (er ∙ ap (need .answer here) (kind-of e) ∙ a) (λ u s. needed-of e (f u s))
+            (subst (λ (y : Node). Holds ws text used (rooted y)) (i .whole ∙ ap (put i) (e ∙ w)) (k .holds))))
+        go e (refuses x a f) = unserved x (er ∙ ap (need .answer here) (kind-of e) ∙ a) (λ u. needed-of e (f u))
 
   pub need-does : (ws : List ℕ) (here : Here) {ws' : List ℕ} {r : Performed} → r ≡ need .answer here (word ws (here .node) kindWord)
-      → ws' ≡ becomes ws (here .node) (need .of-kind) → (text : List ℕ) → Does ws text ws' text here (λ lent path. atPath path rule) stays r
-  need-does ws here {ws'} {r} er ew text lent p v t s = go (serve (s .stores) (s .leads) here er ew)
+      → ws' ≡ becomes ws (here .node) (need .of-kind) → (text : List ℕ) → Does ws text ws' text here (λ env path. along path rule) stays r
+  need-does ws here {ws'} {r} er ew text env p v t s = go (serve (s .stores) (s .leads) here er ew)
     where
-      go : Served (s .stores) (s .leads) here er ew → After lent ws' text p r (atPath p rule v (here .records) t)
+      go : Served (s .stores) (s .leads) here er ew → After env ws' text p r (along p rule v (usedBy here t))
       go (served cs a e q) =
-          subst (λ (m : Made Value). After lent ws' text p r m) (sym (rule-is (s .stores) (s .leads) here er ew (made cs (here .records) t) (e (here .records) t)))
-          (subst (λ (y : Performed). After lent ws' text p y (made (s .leads .back (need .wrap cs)) (here .records) t)) (sym a)
+          subst (λ (m : Made Node). After env ws' text p r m) (sym (rule-is (s .stores) (s .leads) here er ew (made cs (usedBy here t)) (e (usedBy here t))))
+          (subst (λ (y : Performed). After env ws' text p y (made (put (s .leads) (need .wrap cs)) (usedBy here t))) (sym a)
           (stood refl
           (record {
             lent-is = s .lent-is ∙ same-lent ws text ws' text (ap length ew ∙ length-becomes ws (here .node) (need .of-kind)) refl;
@@ -160,8 +168,8 @@ module _ (need : Need) where
             leads = changed (s .leads) (need .wrap cs);
           })))
       go (unserved x a e) =
-          subst (λ (m : Made Value). After lent ws' text p r m) (sym (rule-is (s .stores) (s .leads) here er ew (refused x) (e (here .records) t)))
-          (subst (λ (y : Performed). After lent ws' text p y (refused x)) (sym a) (stopped))
+          subst (λ (m : Made Node). After env ws' text p r m) (sym (rule-is (s .stores) (s .leads) here er ew (refused x) (e (usedBy here t))))
+          (subst (λ (y : Performed). After env ws' text p y (refused x)) (sym a) (stopped))
 
   -- What is needed is answered where it was.
   pub needed-here : {ws text : List ℕ} {here there : Here} {ws' : List ℕ} {r : Performed} → Standing ws text here
@@ -173,16 +181,16 @@ module _ (need : Need) where
       go (unserved x a e) = not-both (sym m ∙ a)
 
 -- The two needs. What is lent doesn't matter to them.
-abbrev pub nothing : Lent
-nothing = record { records = 0; bytes = 0 }
+abbrev pub nothing : Environment
+nothing = lending (record { records = 0; bytes = 0 })
 
 pub map-met : (here : Here) (v : Value) → Met map expectMap mapAnswer here v
-map-met here uninitialized = turns refl (λ u s. refl)
-map-met here (map cs) = serves cs refl (λ e. omega arith) refl (λ u s. refl)
-map-met here (sequence cs) = refuses MapOnSequence refl (λ u s. refl)
-map-met here (string o x) = refuses MapOnString refl (λ u s. refl)
-map-met here null = refuses MapOnNull refl (λ u s. refl)
-map-met here noValue = refuses MapOnNull refl (λ u s. refl)
+map-met here uninitialized = turns refl (λ u. refl)
+map-met here (map cs) = serves cs refl (λ e. omega arith) refl (λ u. refl)
+map-met here (sequence cs) = refuses MapOnSequence refl (λ u. refl)
+map-met here (string o x) = refuses MapOnString refl (λ u. refl)
+map-met here null = refuses MapOnNull refl (λ u. refl)
+map-met here noValue = refuses MapOnNull refl (λ u. refl)
 
 abbrev pub mapNeed : Need
 mapNeed =
@@ -199,12 +207,12 @@ mapNeed =
     }
 
 pub sequence-met : (here : Here) (v : Value) → Met sequence expectSequence sequenceAnswer here v
-sequence-met here uninitialized = turns refl (λ u s. refl)
-sequence-met here (sequence cs) = serves cs refl (λ e. omega arith) refl (λ u s. refl)
-sequence-met here (map cs) = refuses SequenceOnMap refl (λ u s. refl)
-sequence-met here (string o x) = refuses SequenceOnSingle refl (λ u s. refl)
-sequence-met here null = refuses SequenceOnSingle refl (λ u s. refl)
-sequence-met here noValue = refuses SequenceOnSingle refl (λ u s. refl)
+sequence-met here uninitialized = turns refl (λ u. refl)
+sequence-met here (sequence cs) = serves cs refl (λ e. omega arith) refl (λ u. refl)
+sequence-met here (map cs) = refuses SequenceOnMap refl (λ u. refl)
+sequence-met here (string o x) = refuses SequenceOnSingle refl (λ u. refl)
+sequence-met here null = refuses SequenceOnSingle refl (λ u. refl)
+sequence-met here noValue = refuses SequenceOnSingle refl (λ u. refl)
 
 abbrev pub sequenceNeed : Need
 sequenceNeed =
@@ -226,7 +234,7 @@ module _ (ws : List ℕ) (here : Here) {kd : ℕ} (e : kd ≡ word ws (here .nod
     abbrev pub Promise : List ℕ → Performed → Type 0
     Promise ws' r =
         ((r ≡ need .answer here (word ws (here .node) kindWord)) × (ws' ≡ becomes ws (here .node) (need .of-kind)))
-        × ((text : List ℕ) → Does ws text ws' text here (λ lent path. atPath path (rule need)) stays r)
+        × ((text : List ℕ) → Does ws text ws' text here (λ env path. along path (rule need)) stays r)
 
     promise : {ws' : List ℕ} {r : Performed} → r ≡ need .answer here (word ws (here .node) kindWord) → ws' ≡ becomes ws (here .node) (need .of-kind)
         → Promise ws' r

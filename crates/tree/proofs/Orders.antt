@@ -7,7 +7,7 @@ use Rattle.key.specs.KeyOrder.{compareKeys}
 use Rattle.key.proofs.KeyOrders.{opposite, keys-turned}
 use Rattle.records.specs.Keys.{storedKey}
 use Rattle.records.proofs.Seeking.{keyStands}
-use Rattle.reading.specs.Values.{Label, unkeyed, intKey, stringKey, labelKey, Value}
+use Rattle.reading.specs.Values.{Label, unkeyed, intKey, stringKey, labelKey, Row, rowKey, Value}
 use Rattle.reading.specs.Laid.{LaidLabel}
 use Rattle.reading.proofs.Laying.{lies-part}
 use Rattle.tree.specs.Nodes.{labelWords, recordOf}
@@ -18,5 +18,5 @@ stored-key text unkeyed h = refl
 stored-key text (intKey a) h = refl
 stored-key text (stringKey o x) h = ap str (lies-part h)
 
-pub stands-turned : (text : List ℕ) (k : Key) (l : Label) (v : Value) → LaidLabel text l → keyStands text k (recordOf l v) ≡ opposite (compareKeys k (labelKey l))
-stands-turned text k l v h = ap (λ (j : Key). compareKeys j k) (stored-key text l h) ∙ keys-turned k (labelKey l)
+pub stands-turned : (text : List ℕ) (k : Key) (l : Row) (v : Value) → LaidLabel text (l .label) → keyStands text k (recordOf l v) ≡ opposite (compareKeys k (rowKey l))
+stands-turned text k l v h = ap (λ (j : Key). compareKeys j k) (stored-key text (l .label) h) ∙ keys-turned k (rowKey l)

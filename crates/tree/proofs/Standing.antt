@@ -11,8 +11,8 @@ use Rattle.records.specs.Siblings.{WellFormed}
 use Rattle.records.specs.Nodes.{Nodes, node, plug}
 use Rattle.records.specs.Holds.{Holds}
 use Rattle.records.proofs.Held.{node-used, kind-is, well-formed, other-text}
-use Rattle.reading.specs.Values.{Value}
-use Rattle.reading.specs.Charging.{Lent}
+use Rattle.reading.specs.Values.{Node}
+use Rattle.reading.specs.Charging.{Environment}
 use Rattle.reading.specs.Records.{kind}
 use Rattle.reading.specs.Laid.{Laid}
 use Rattle.reading.specs.Reading.{lentBy}
@@ -27,20 +27,20 @@ same-lent ws text ws' text' a b =
     ap (λ (n : ℕ). record { records = n / recordWidth; bytes = length text }) (sym a)
     ∙ ap (λ (n : ℕ). record { records = length ws' / recordWidth; bytes = n }) (sym b)
 
-module _ {ws text : List ℕ} {used filled : ℕ} {p : List Key} {v : Value} {t : List ℕ} {n : ℕ} (k : Stores ws text used filled v t) (i : Leads p v n) where
-  pub at-node : Holds ws text used (plug (i .around) (node n (recordOf (i .label) (i .at)) (below (i .at)) (i .rest)))
-  at-node = subst (λ (q : Nodes). Holds ws text used q) (ap rooted (i .whole) ∙ i .is (i .at)) (k .holds)
+module _ {ws text : List ℕ} {used filled : ℕ} {p : List Key} {v : Node} {t : List ℕ} {n : ℕ} (k : Stores ws text used filled v t) (i : Leads p v n) where
+  pub at-node : Holds ws text used (plug (i .around) (node n (recordOf (i .row) (i .value)) (below (i .value)) (i .rest)))
+  at-node = subst (λ (q : Nodes). Holds ws text used q) (ap rooted (i .whole) ∙ i .is (i .value)) (k .holds)
 
-  pub at-kind : word ws n kindWord ≡ kind (i .at)
-  at-kind = kind-is n (recordOf (i .label) (i .at)) (below (i .at)) (i .rest) (i .around) at-node
+  pub at-kind : word ws n kindWord ≡ kind (i .value)
+  at-kind = kind-is n (recordOf (i .row) (i .value)) (below (i .value)) (i .rest) (i .around) at-node
 
   pub at-used : n < used
-  at-used = node-used n (recordOf (i .label) (i .at)) (below (i .at)) (i .rest) (i .around) at-node
+  at-used = node-used n (recordOf (i .row) (i .value)) (below (i .value)) (i .rest) (i .around) at-node
 
-  pub at-text : Laid t (i .at)
-  at-text = i .texts t (i .at) (subst (Laid t) (i .whole) (k .texts))
+  pub at-text : Laid t (i .value)
+  at-text = i .texts t (i .value) (subst (λ (w : Node). Laid t (w .value)) (i .whole) (k .texts))
 
-module _ {lent : Lent} {ws text : List ℕ} {here : Here} {path : List Key} {tree : Value} {laid : List ℕ} (s : Stands lent ws text here path tree laid) where
+module _ {env : Environment} {ws text : List ℕ} {here : Here} {path : List Key} {tree : Node} {laid : List ℕ} (s : Stands env ws text here path tree laid) where
   pub at-low : here .node < recordCount ws
   at-low = omega (arith, at-used (s .stores) (s .leads), s .stores .holds .room)
 
@@ -48,7 +48,7 @@ module _ {lent : Lent} {ws text : List ℕ} {here : Here} {path : List Key} {tre
   at-end = omega (arith, full-le text laid (s .stores .full), s .stores .fill)
 
   -- The same tree, for a command at its root.
-  pub at-root : Stands lent ws text (record { records = here .records; bytes = here .bytes; node = 0 }) [] tree laid
+  pub at-root : Stands env ws text (record { records = here .records; bytes = here .bytes; node = 0 }) [] tree laid
   at-root = record { lent-is = s .lent-is; stores = s .stores; leads = root tree }
 
   pub some : Standing ws text here

@@ -15,14 +15,15 @@ use Rattle.row.specs.Words.{word}
 use Rattle.records.specs.Records.{withValue}
 use Rattle.records.specs.Adding.{childless}
 use Rattle.records.specs.Nodes.{nil, first as firstNode, indicator, count, here}
-use Rattle.records.specs.Holds.{Row, Represents}
+use Rattle.records.specs.Holds.{Represents}
+use Rattle.records.specs.Holds as Stored
 use Rattle.records.proofs.Forests.{indicator-same, indicator-other, row, row-words}
 use Rattle.records.proofs.Valued.{value-holds}
 use Rattle.records.proofs.Start.{start-holds}
-use Rattle.reading.specs.Values.{Label, unkeyed, intKey, stringKey, Value, uninitialized, null, noValue, string, map, sequence, Forest, none, child}
-use Rattle.reading.specs.Records.{first, firstChild, recordWords, recordBelow, recordAmong, recordsFrom, layout}
+use Rattle.reading.specs.Values.{Label, unkeyed, intKey, stringKey, Row, bare, Value, uninitialized, null, noValue, string, map, sequence, Forest, none, child, Node}
+use Rattle.reading.specs.Records.{first, firstChild, recordWords, recordBelow, recordAmong, recordsFrom, rooted as forestOf, layout}
 use Rattle.reading.specs.Running.{accepted}
-use Rattle.reading.specs.Reading.{Outcome, accepts, outcome}
+use Rattle.reading.specs.Reading.{Outcome, accepts, alone, outcome}
 use Rattle.reading.proofs.Layouts.{records-at, records-length}
 use Rattle.tree.specs.Nodes.{recordOf, below, nodes}
 use Rattle.tree.specs.Stored.{Stores}
@@ -39,10 +40,13 @@ first-below (string o x) = refl
 first-below (map cs) = first-node cs
 first-below (sequence cs) = first-node cs
 
-row-is : (l : Label) (v : Value) (cs : Forest) → row (recordOf l v) (firstChild v) (first cs) ≡ recordWords l v cs
-row-is unkeyed v cs = refl
-row-is (intKey a) v cs = refl
-row-is (stringKey o x) v cs = refl
+row-is : (l : Row) (v : Value) (cs : Forest) → row (recordOf l v) (firstChild v) (first cs) ≡ recordWords l v cs
+row-is l v cs = go (l .label)
+  where
+    go : (x : Label) → row (recordOf (record { label = x }) v) (firstChild v) (first cs) ≡ recordWords (record { label = x }) v cs
+    go unkeyed = refl
+    go (intKey a) = refl
+    go (stringKey o y) = refl
 
 mutual
   absent : (v : Value) (i : ℕ) (d : List ℕ) → count i (below v) ≡ 0 → recordBelow i v d ≡ d
@@ -61,7 +65,7 @@ mutual
 
 -- Word w of record i, by the tree.
 module _ (ws : List ℕ) (i w : ℕ) (l8 : w < recordWidth) where
-  row-word : (m : ℕ) (l : Label) (v : Value) (cs : Forest) → Row ws m (recordOf l v) (firstNode (below v)) (firstNode (nodes cs)) → i ≡ m
+  row-word : (m : ℕ) (l : Row) (v : Value) (cs : Forest) → Stored.Row ws m (recordOf l v) (firstNode (below v)) (firstNode (nodes cs)) → i ≡ m
       → word ws i w ≡ getD (recordWords l v cs) w 0
   row-word m l v cs r e =
       let f : row (recordOf l v) (firstNode (below v)) (firstNode (nodes cs)) ≡ recordWords l v cs = rw (first-below v, first-node cs) (row-is l v cs) in
@@ -88,7 +92,7 @@ module _ (ws : List ℕ) (i w : ℕ) (l8 : w < recordWidth) where
         go (no e) (yes z) f g = rw (ne-eqb i m e) (f z)
         go (no e) (no z) f g = rw (ne-eqb i m e, absent v i (recordAmong i cs d) (omega arith)) (g (omega (arith, indicator-other i m e)))
 
-pub laid-words : {ws text : List ℕ} {used filled : ℕ} {v : Value} {t : List ℕ} → Stores ws text used filled v t
+pub laid-words : {ws text : List ℕ} {used filled : ℕ} {v : Node} {t : List ℕ} → Stores ws text used filled v t
     → ws ≡ layout used v ++ replicate (length ws - used * recordWidth) 0
 unfolding word
 laid-words {ws} {text} {used} {filled} {v} k =
@@ -100,13 +104,13 @@ laid-words {ws} {text} {used} {filled} {v} k =
     zs = replicate (length ws - used * recordWidth) 0
 
     len : length (layout used v) ≡ used * recordWidth
-    len = records-length used 0 (child 0 unkeyed v none)
+    len = records-length used 0 (forestOf v)
 
     fits : used * recordWidth ≤ length ws
     fits = omega (arith, k .holds .room)
 
-    cell : (i w : ℕ) → w < recordWidth → i < used → word ws i w ≡ getD (recordAmong i (child 0 unkeyed v none) (replicate recordWidth 0)) w 0
-    cell i w l u = word-among ws i w l (child 0 unkeyed v none) (replicate recordWidth 0) (k .holds .represents) (omega (arith, k .holds .once i u))
+    cell : (i w : ℕ) → w < recordWidth → i < used → word ws i w ≡ getD (recordAmong i (forestOf v) (replicate recordWidth 0)) w 0
+    cell i w l u = word-among ws i w l (forestOf v) (replicate recordWidth 0) (k .holds .represents) (omega (arith, k .holds .once i u))
 
     index : (i : ℕ) → getD ws i 0 ≡ word ws (i / recordWidth) (i % recordWidth)
     index i = ap (λ (j : ℕ). getD ws j 0) (omega arith)
@@ -116,18 +120,18 @@ laid-words {ws} {text} {used} {filled} {v} k =
         index i ∙ cell (i / recordWidth) (i % recordWidth) (omega arith) u
         ∙ sym
         (List·getD-append (layout used v) zs 0 i (omega (arith, len)) ∙ split
-        ∙ records-at used 0 (i / recordWidth) (i % recordWidth) (child 0 unkeyed v none) u (omega arith) ∙ first-one)
+        ∙ records-at used 0 (i / recordWidth) (i % recordWidth) (forestOf v) u (omega arith) ∙ first-one)
       where
-        split : getD (layout used v) i 0 ≡ getD (recordsFrom used 0 (child 0 unkeyed v none)) (i / recordWidth * recordWidth + i % recordWidth) 0
+        split : getD (layout used v) i 0 ≡ getD (recordsFrom used 0 (forestOf v)) (i / recordWidth * recordWidth + i % recordWidth) 0
         split =
             let e : i ≡ i / recordWidth * recordWidth + i % recordWidth = omega arith in
-            ap (λ (j : ℕ). getD (recordsFrom used 0 (child 0 unkeyed v none)) j 0) e
+            ap (λ (j : ℕ). getD (recordsFrom used 0 (forestOf v)) j 0) e
 
-        first-one : getD (recordAmong (0 + i / recordWidth) (child 0 unkeyed v none) (replicate recordWidth 0)) (i % recordWidth) 0
-            ≡ getD (recordAmong (i / recordWidth) (child 0 unkeyed v none) (replicate recordWidth 0)) (i % recordWidth) 0
+        first-one : getD (recordAmong (0 + i / recordWidth) (forestOf v) (replicate recordWidth 0)) (i % recordWidth) 0
+            ≡ getD (recordAmong (i / recordWidth) (forestOf v) (replicate recordWidth 0)) (i % recordWidth) 0
         first-one =
             let e : 0 + i / recordWidth ≡ i / recordWidth = omega arith in
-            ap (λ (j : ℕ). getD (recordAmong j (child 0 unkeyed v none) (replicate recordWidth 0)) (i % recordWidth) 0) e
+            ap (λ (j : ℕ). getD (recordAmong j (forestOf v) (replicate recordWidth 0)) (i % recordWidth) 0) e
     at i (no u) =
         index i ∙ k .holds .unused (i / recordWidth) (i % recordWidth) (omega arith) (omega arith)
         ∙ sym (shift ∙ getD-append-add (layout used v) zs (i - used * recordWidth) 0 ∙ zeros (length ws - used * recordWidth) (i - used * recordWidth))
@@ -138,8 +142,8 @@ laid-words {ws} {text} {used} {filled} {v} k =
             ap (λ (j : ℕ). getD (layout used v ++ zs) j 0) e
 
 -- The outcome of an accepted reading is what stands in the buffers.
-pub outcome-is : {ws text : List ℕ} {used filled : ℕ} {v : Value} {t : List ℕ} → Stores ws text used filled v t
-    → outcome (length ws) (length text) (accepted v used t) ≡ record { answer = accepts used filled; words = ws; text = text }
+pub outcome-is : {ws text : List ℕ} {used filled : ℕ} {v : Node} {t : List ℕ} → Stores ws text used filled v t
+    → outcome (length ws) (length text) (accepted v (record { records = used; text = t })) ≡ record { answer = accepts used filled; words = ws; text = text }
 outcome-is {ws} {text} {used} {filled} {v} {t} k =
     whole (layout used v ++ replicate (length ws - used * recordWidth) 0) (t ++ replicate (length text - length t) 0) (length t)
     (sym (laid-words k)) (sym (k .full)) (sym (k .fill))
@@ -150,16 +154,16 @@ outcome-is {ws} {text} {used} {filled} {v} {t} k =
     whole a b n p q r = rw (p, q, r)
 
 -- Cleared buffers hold the Uninitialized root; and a NoValue root, once that is written.
-pub cleared : (len b : ℕ) → recordWidth ≤ len → Stores (replicate len 0) (replicate b 0) 1 0 uninitialized []
+pub cleared : (len b : ℕ) → recordWidth ≤ len → Stores (replicate len 0) (replicate b 0) 1 0 (alone uninitialized) []
 cleared len b l = record { holds = start-holds len (replicate b 0) l; texts = tt; shaped = tt; full = whole; fill = refl }
   where
     whole : replicate {A = ℕ} b 0 ≡ [] ++ replicate (length (replicate {A = ℕ} b 0) - 0) 0
     whole = let e : length (replicate {A = ℕ} b 0) - 0 ≡ b = omega (arith, length-replicate {A = ℕ} b 0) in rw e
 
-pub no-value : (len b : ℕ) → recordWidth ≤ len → Stores (withValue (replicate len 0) 0 (childless noValueKind)) (replicate b 0) 1 0 noValue []
+pub no-value : (len b : ℕ) → recordWidth ≤ len → Stores (withValue (replicate len 0) 0 (childless noValueKind)) (replicate b 0) 1 0 (alone noValue) []
 no-value len b l =
     record {
-      holds = value-holds 0 (recordOf unkeyed uninitialized) nil nil here (start-holds len (replicate b 0) l) (childless noValueKind);
+      holds = value-holds 0 (recordOf bare uninitialized) nil nil here (start-holds len (replicate b 0) l) (childless noValueKind);
       texts = tt;
       shaped = tt;
       full = cleared len b l .full;

@@ -3,52 +3,58 @@ use mathlib.Core.Path.{_≡_}
 use mathlib.Core.List.{List, [], _∷_, _++_}
 use Prim.Native.Nat.{ℕ, _+_, _≤_, _<_, _^_}
 use Rattle.key.specs.Keys.{Key}
-use Rattle.reading.specs.Values.{Value}
+use Rattle.reading.specs.Values.{Node}
 use Rattle.reading.specs.Leaves.{Leaf}
 use Rattle.refusals.specs.declared.Refusal.{Refusal}
-use Rattle.reading.specs.Charging.{Lent, Rule, Made, made, refused}
+use Rattle.reading.specs.Charging.{Environment, Used, Made, made, refused, Rule, NodeRule}
 use Rattle.reading.specs.Adding.{appendValue, atPath}
 use Rattle.reading.specs.Scanning.{under, last, enter, needMap, needSequence, add}
 use Rattle.reading.specs.Running.{perform}
 use Rattle.tree.specs.declared.Here.{Here}
 use Rattle.tree.specs.declared.Performed.{Performed}
 use Rattle.tree.specs.declared.Performed.the-variants.{Made as MadeHere, Refused}
-use Rattle.tree.specs.Stored.{Stands}
+use Rattle.tree.specs.Stored.{usedBy, Stands}
 
 -- The words, the text and the answer after a command: the tree that is made stands there with its counts, and the path
 -- leads to the record that is answered; or the answer is the refusal, and what the words and the text hold then is
 -- free: `parse` clears both.
-pub data After (lent : Lent) (ws text : List ℕ) (path : List Key) : Performed → Made Value → Type 0 where
-  stood : {here : Here} {tree : Value} {used : ℕ} {laid : List ℕ} → used ≡ here .records → Stands lent ws text here path tree laid
-      → After lent ws text path (MadeHere here) (made tree used laid)
-  stopped : {x : Refusal} → After lent ws text path (Refused x) (refused x)
+pub data After (env : Environment) (ws text : List ℕ) (path : List Key) : Performed → Made Node → Type 0 where
+  stood :
+      {here : Here} {tree : Node} {used : Used} → used .records ≡ here .records → Stands env ws text here path tree (used .text)
+      → After env ws text path (MadeHere here) (made tree used)
+  stopped : {x : Refusal} → After env ws text path (Refused x) (refused x)
 
 -- A function does as a rule at a path: whatever tree stands in the words and the text and whatever path leads to the record, the words, the
 -- text and the answer are as the rule makes them, and `to path` leads to the record that is answered.
-abbrev pub Does : List ℕ → List ℕ → List ℕ → List ℕ → Here → (Lent → List Key → Rule Value) → (List Key → List Key) → Performed → Type 0
+abbrev pub Does :
+    List ℕ → List ℕ → List ℕ → List ℕ → Here → (Environment → List Key → Rule Node) → (List Key → List Key) → Performed → Type 0
 Does ws text ws' text' here rule to r =
-    (lent : Lent) (path : List Key) (tree : Value) (laid : List ℕ) → Stands lent ws text here path tree laid
-    → After lent ws' text' (to path) r (rule lent path tree (here .records) laid)
+    (env : Environment) (path : List Key) (tree : Node) (laid : List ℕ) → Stands env ws text here path tree laid
+    → After env ws' text' (to path) r (rule env path tree (usedBy here laid))
 
 -- The commands as rules at a path.
-abbrev pub needsMap : Lent → List Key → Rule Value
-needsMap lent path = perform lent (needMap path)
+abbrev pub needsMap : Environment → List Key → Rule Node
+needsMap env path = perform env (needMap path)
 
-abbrev pub needsSequence : Lent → List Key → Rule Value
-needsSequence lent path = perform lent (needSequence path)
+abbrev pub needsSequence : Environment → List Key → Rule Node
+needsSequence env path = perform env (needSequence path)
 
-abbrev pub enters : Key → Lent → List Key → Rule Value
-enters key lent path = perform lent (enter path key)
+abbrev pub enters : Key → Environment → List Key → Rule Node
+enters key env path = perform env (enter path key)
 
-abbrev pub inserts : Key → Leaf → Lent → List Key → Rule Value
-inserts key leaf lent path = perform lent (add (under path key) leaf)
+abbrev pub inserts : Key → Leaf → Environment → List Key → Rule Node
+inserts key leaf env path = perform env (add (under path key) leaf)
 
-abbrev pub pushes : Leaf → Lent → List Key → Rule Value
-pushes leaf lent path = perform lent (add (last path) leaf)
+abbrev pub pushes : Leaf → Environment → List Key → Rule Node
+pushes leaf env path = perform env (add (last path) leaf)
+
+-- A rule at a path of a tree.
+abbrev pub along : List Key → NodeRule → Rule Node
+along path rule tree used = atPath path rule (tree .row) (tree .value) used
 
 -- The rule of Adding. At the empty path this is the command that adds to the root.
-abbrev pub appends : Leaf → Lent → List Key → Rule Value
-appends leaf lent path = atPath path (appendValue lent leaf)
+abbrev pub appends : Leaf → Environment → List Key → Rule Node
+appends leaf env path = along path (appendValue env leaf)
 
 -- The path after a command: the same, or a key further.
 abbrev pub stays : List Key → List Key

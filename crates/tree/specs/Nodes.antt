@@ -4,7 +4,8 @@ use Rattle.records.specs.declared.store.KeyWords.{KeyWords}
 use Rattle.records.specs.declared.store.ValueWords.{ValueWords}
 use Rattle.records.specs.declared.store.Record.{Record}
 use Rattle.records.specs.Nodes.{Nodes, nil, node}
-use Rattle.reading.specs.Values.{Label, unkeyed, Value, uninitialized, null, noValue, string, map, sequence, Forest, none, child}
+use Rattle.reading.specs.Values.{Label, Row, Value, uninitialized, null, noValue, string, map, sequence}
+use Rattle.reading.specs.Values.{Forest, none, child, Node}
 use Rattle.reading.specs.Records.{kind, textOffset, textLength, keyWords}
 
 -- The words of a key, of a value without its children, and of both.
@@ -14,8 +15,8 @@ labelWords label = record { kind = getD (keyWords label) 0 0; offset = getD (key
 abbrev pub valueWords : Value → ValueWords
 valueWords value = record { kind = kind value; offset = textOffset value; len = textLength value }
 
-abbrev pub recordOf : Label → Value → Record
-recordOf label value = record { key = labelWords label; value = valueWords value }
+abbrev pub recordOf : Row → Value → Record
+recordOf row value = record { key = labelWords (row .label); value = valueWords value }
 
 -- The records below a value, and those of some children with all below them.
 abbrev mutual
@@ -29,8 +30,8 @@ abbrev mutual
 
   pub nodes : Forest → Nodes
   nodes none = nil
-  nodes (child number label value later) = node number (recordOf label value) (below value) (nodes later)
+  nodes (child number row value later) = node number (recordOf row value) (below value) (nodes later)
 
--- The records of a tree: "Record 0 is the root." It has no key and no sibling.
-abbrev pub rooted : Value → Nodes
-rooted tree = node 0 (recordOf unkeyed tree) (below tree) nil
+-- The records of a tree: "Record 0 is the root." It has no sibling.
+abbrev pub rooted : Node → Nodes
+rooted tree = node 0 (recordOf (tree .row) (tree .value)) (below (tree .value)) nil

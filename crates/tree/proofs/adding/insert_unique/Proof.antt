@@ -44,7 +44,7 @@ returns c =
     let start = at-enter .before .before .before .before .before .before .before in
     let key = meantKey (start .args .key) (start .args .raw .now) in
     let x = leafOf (start .args .kind) (start .args .value .now) in
-    goes-on (enters key) (further key) (at-enter .enter .ensures .0) (appends x) (inserts key x) (λ lent. insert-composed lent key x)
+    goes-on (enters key) (further key) (at-enter .enter .ensures .0) (appends x) (inserts key x) (λ env. insert-composed env key x)
     (at-there .there .given .1) (at-append-value .append-value .ensures)
 
 same-length-3 : tie.Need-same-length-3
@@ -60,8 +60,8 @@ returns-2 c =
     let start = at-enter .before .before .before .before .before .before .before in
     let key = meantKey (start .args .key) (start .args .raw .now) in
     let x = leafOf (start .args .kind) (start .args .value .now) in
-    stops (enters key) (further key) (at-enter .enter .ensures .0) (λ lent path. appends x lent (further key path)) (inserts key x)
-    (λ lent. insert-composed lent key x) (further key) (at-refusal .refusal .given .1)
+    stops (enters key) (further key) (at-enter .enter .ensures .0) (λ env path. appends x env (further key path)) (inserts key x)
+    (λ env. insert-composed env key x) (further key) (at-refusal .refusal .given .1)
 
 pub insert-unique-spec : {M : Type 1} → statement M
 insert-unique-spec =

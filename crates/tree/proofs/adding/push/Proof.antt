@@ -47,7 +47,7 @@ returns c =
     let at-expect-sequence = at-there .before .before .before .before in
     let start = at-expect-sequence .before .before .before .before .before in
     let x = leafOf (start .args .kind) (start .args .value .now) in
-    goes-on needsSequence stays (at-expect-sequence .expect-sequence .ensures .1 (start .args .text .now)) (appends x) (pushes x) (λ lent. push-composed lent x)
+    goes-on needsSequence stays (at-expect-sequence .expect-sequence .ensures .1 (start .args .text .now)) (appends x) (pushes x) (λ env. push-composed env x)
     (at-there .there .given .1) (at-append-value .append-value .ensures)
 
 same-length-3 : tie.Need-same-length-3
@@ -59,7 +59,7 @@ returns-2 c =
     let at-expect-sequence = at-refusal .before .before .before .before in
     let start = at-expect-sequence .before .before .before .before .before in
     let x = leafOf (start .args .kind) (start .args .value .now) in
-    stops needsSequence stays (at-expect-sequence .expect-sequence .ensures .1 (start .args .text .now)) (appends x) (pushes x) (λ lent. push-composed lent x)
+    stops needsSequence stays (at-expect-sequence .expect-sequence .ensures .1 (start .args .text .now)) (appends x) (pushes x) (λ env. push-composed env x)
     stays (at-refusal .refusal .given .1)
 
 pub push-spec : {M : Type 1} → statement M

@@ -1,7 +1,7 @@
 use native.Mathlib.Omega.{arith}
 use Rattle.records.specs.Keys.{meantKey}
-use Rattle.reading.specs.Adding.{enterKey, atPath}
-use Rattle.tree.specs.Commands.{needsMap, enters, stays, further}
+use Rattle.reading.specs.Adding.{enterKey}
+use Rattle.tree.specs.Commands.{needsMap, enters, along, stays, further}
 use Rattle.tree.proofs.Composed.{enter-composed}
 use Rattle.tree.proofs.Chained.{then-standing, stops}
 use Rattle.tree.proofs.Standing.{stand-low, stand-end, stand-formed}
@@ -97,8 +97,8 @@ returns-3 c =
     let at-expect-map = at-refusal .before .before .before .before in
     let start = at-expect-map .before .before .before .before .before in
     let key = meantKey (start .args .key) (start .args .raw .now) in (
-      stops needsMap stays (at-expect-map .expect-map .ensures .1 (start .args .text .now)) (λ lent path. atPath path (enterKey lent key)) (enters key)
-          (λ lent. enter-composed lent key) (further key) (at-refusal .refusal .given .1),
+      stops needsMap stays (at-expect-map .expect-map .ensures .1 (start .args .text .now)) (λ env path. along path (enterKey env key)) (enters key)
+          (λ env. enter-composed env key) (further key) (at-refusal .refusal .given .1),
       tt,
     )
 
