@@ -6,22 +6,22 @@ use Prim.Native.Nat.{ℕ, _+_, _≤_, _<_}
 use native.Mathlib.Omega.{arith}
 use lib.ListN.{length, drop, drop-of-length-le}
 use Rattle.config.specs.declared.Config.{Config}
-use Rattle.reading.specs.Values.{Value, uninitialized}
-use Rattle.reading.specs.Charging.{Lent}
+use Rattle.reading.specs.Values.{uninitialized, Node}
+use Rattle.reading.specs.Charging.{Lent, Environment, Used, rootOnly}
 use Rattle.reading.specs.Taking.{Symbol, byteTokens, formTokens, tokens}
 use Rattle.reading.specs.Scanning.{Mode, rootKey, skip, _then_, step, finish}
 use Rattle.reading.specs.Running.{accepted}
-use Rattle.reading.specs.Reading.{parsed}
+use Rattle.reading.specs.Reading.{alone, lending, parsed}
 use Rattle.cursor.specs.Segments.{segment}
 use Rattle.cursor.specs.Takings.{Takes, TakesEnd}
 use Rattle.cursor.specs.From.{from, after}
 use Rattle.cursor.proofs.Segments.{length-segment}
 
 -- One step of the reading.
-pub from-take : {config : Config} {s : List ℕ} {i j : ℕ} {y : Symbol} → Takes config s i y j → (lent : Lent) (mode : Mode) (tree : Value) (used : ℕ) (text : List ℕ)
-    → from config lent s i mode tree used text ≡ after config lent s j (step config mode y (segment s i j) .command) (step config mode y (segment s i j) .next) tree used text
+pub from-take : {config : Config} {s : List ℕ} {i j : ℕ} {y : Symbol} → Takes config s i y j → (env : Environment) (mode : Mode) (tree : Node) (used : Used)
+    → from config env s i mode tree used ≡ after config env s j (step config mode y (segment s i j) .command) (step config mode y (segment s i j) .next) tree used
 unfolding from
-from-take {config} {s} {i} {j} k lent mode tree used text =
+from-take {config} {s} {i} {j} k env mode tree used =
     let e : i + length (k .first ∷ k .others) ≡ j = ap (λ (l : List ℕ). i + length l) (k .raw) ∙ place in
     rw (k .list, ← k .raw, ← e)
   where
@@ -30,8 +30,8 @@ from-take {config} {s} {i} {j} k lent mode tree used text =
 
 -- A taking that only changes the mode.
 pub from-skip : {config : Config} {s : List ℕ} {i j : ℕ} {y : Symbol} → Takes config s i y j → (m m′ : Mode) → step config m y (segment s i j) ≡ skip then m′
-    → (lent : Lent) (tree : Value) (used : ℕ) (text : List ℕ) → from config lent s i m tree used text ≡ from config lent s j m′ tree used text
-from-skip k m m′ e lent tree used text = from-take k lent m tree used text ∙ rw e
+    → (env : Environment) (tree : Node) (used : Used) → from config env s i m tree used ≡ from config env s j m′ tree used
+from-skip k m m′ e env tree used = from-take k env m tree used ∙ rw e
 
 -- Past the end nothing is left.
 no-tokens : (config : Config) (s : List ℕ) (i : ℕ) → length s ≤ i → tokens config (drop i s) ≡ []
@@ -42,19 +42,19 @@ no-tokens config s i h = rw (drop-of-length-le s h) (go (config .form))
     go false = refl
 
 -- The end is taken as an `&` would be: a new pair starts, of which nothing comes.
-pub from-end : {s : List ℕ} {i j : ℕ} → TakesEnd s i j → (config : Config) (lent : Lent) (mode : Mode) (tree : Value) (used : ℕ) (text : List ℕ)
-    → from config lent s i mode tree used text ≡ after config lent s j (finish config mode) (rootKey []) tree used text
+pub from-end : {s : List ℕ} {i j : ℕ} → TakesEnd s i j → (config : Config) (env : Environment) (mode : Mode) (tree : Node) (used : Used)
+    → from config env s i mode tree used ≡ after config env s j (finish config mode) (rootKey []) tree used
 unfolding from
-from-end {s} {i} {j} k config lent mode tree used text = rw (no-tokens config s i (omega arith), no-tokens config s j (omega arith), k .on)
+from-end {s} {i} {j} k config env mode tree used = rw (no-tokens config s i (omega arith), no-tokens config s j (omega arith), k .on)
 
 -- Where nothing is left and no pair has started, the reading accepts.
-pub from-none : (config : Config) (lent : Lent) (s : List ℕ) (i : ℕ) → length s ≤ i → (tree : Value) (used : ℕ) (text : List ℕ)
-    → from config lent s i (rootKey []) tree used text ≡ accepted tree used text
+pub from-none : (config : Config) (env : Environment) (s : List ℕ) (i : ℕ) → length s ≤ i → (tree : Node) (used : Used)
+    → from config env s i (rootKey []) tree used ≡ accepted tree used
 unfolding from
-from-none config lent s i h tree used text = rw (no-tokens config s i h)
+from-none config env s i h tree used = rw (no-tokens config s i h)
 
 -- The reading of an input that isn't empty.
-pub from-start : (config : Config) (lent : Lent) (s : List ℕ) → 0 < length s → parsed config s lent ≡ from config lent s 0 (rootKey []) uninitialized 1 []
+pub from-start : (config : Config) (lent : Lent) (s : List ℕ) → 0 < length s → parsed config s lent ≡ from config (lending lent) s 0 (rootKey []) (alone uninitialized) rootOnly
 unfolding from
 from-start config lent [] h = absurd (omega arith)
 from-start config lent (b ∷ s) h = refl

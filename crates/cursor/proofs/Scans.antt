@@ -10,8 +10,8 @@ use lib.ListN.{length}
 use Rattle.laws.proofs.Cases.{true-false}
 use Rattle.config.specs.declared.Config.{Config}
 use Rattle.key.specs.Keys.{Key}
-use Rattle.reading.specs.Values.{Value}
-use Rattle.reading.specs.Charging.{Lent}
+use Rattle.reading.specs.Values.{Node}
+use Rattle.reading.specs.Charging.{Environment, Used}
 use Rattle.reading.specs.Taking.{Symbol, ampersand, equals, opening, closing, other}
 use Rattle.reading.specs.Scanning.{Target, Mode, rootKey, value, keyBelowDepth, keyAtDepth, skip, _then_, step}
 use Rattle.cursor.specs.declared.taking.Cursor.{Cursor}
@@ -51,13 +51,13 @@ Lengthens config until m = (x : List ℕ) (y : Symbol) (raw : List ℕ) → stop
 
 -- One induction for every kind of scan.
 passed-from : {until : Until} {config : Config} {s : List ℕ} {i j : ℕ} → Passed until config s i j → (m : List ℕ → Mode) → Lengthens config until m
-    → (x : List ℕ) (lent : Lent) (tree : Value) (used : ℕ) (text : List ℕ) → from config lent s i (m x) tree used text ≡ from config lent s j
-    (m (x ++ segment s i j)) tree used text
-passed-from {s = s} {i = i} here m g x lent tree used text = rw (segment-none s i, append-nil x)
-passed-from {config = config} {s = s} {i = i} {j = k} (more {i = j} {symbol = y} p w e) m g x lent tree used text =
-    passed-from p m g x lent tree used text
-    ∙ from-skip w (m (x ++ segment s i j)) (m ((x ++ segment s i j) ++ segment s j k)) (g (x ++ segment s i j) y (segment s j k) e) lent tree used text
-    ∙ ap (λ (z : List ℕ). from config lent s k (m z) tree used text)
+    → (x : List ℕ) (env : Environment) (tree : Node) (used : Used) → from config env s i (m x) tree used ≡ from config env s j
+    (m (x ++ segment s i j)) tree used
+passed-from {s = s} {i = i} here m g x env tree used = rw (segment-none s i, append-nil x)
+passed-from {config = config} {s = s} {i = i} {j = k} (more {i = j} {symbol = y} p w e) m g x env tree used =
+    passed-from p m g x env tree used
+    ∙ from-skip w (m (x ++ segment s i j)) (m ((x ++ segment s i j) ++ segment s j k)) (g (x ++ segment s i j) y (segment s j k) e) env tree used
+    ∙ ap (λ (z : List ℕ). from config env s k (m z) tree used)
     (append-assoc x (segment s i j) (segment s j k) ∙ ap (x ++_) (segment-join s i j k (passed-le p) (omega (arith, w .on))))
 
 no-nesting : (b : Bool) → not b ≡ false → b ≡ true
@@ -96,20 +96,20 @@ module _ (config : Config) where
   root-lengthens nests q x other raw e = refl
 
 module _ {config : Config} {s : List ℕ} {i j : ℕ} where
-  pub scan-value : Passed ValueScan config s i j → (target : Target) (lent : Lent) (tree : Value) (used : ℕ) (text : List ℕ)
-      → from config lent s i (value target []) tree used text ≡ from config lent s j (value target (segment s i j)) tree used text
+  pub scan-value : Passed ValueScan config s i j → (target : Target) (env : Environment) (tree : Node) (used : Used)
+      → from config env s i (value target []) tree used ≡ from config env s j (value target (segment s i j)) tree used
   scan-value p target = passed-from p (value target) (value-lengthens config target) []
 
-  pub scan-below-depth : Passed Closing config s i j → (path : List Key) (level : ℕ) (x : List ℕ) (lent : Lent) (tree : Value) (used : ℕ) (text : List ℕ)
-      → from config lent s i (keyBelowDepth path level x) tree used text ≡ from config lent s j (keyBelowDepth path level (x ++ segment s i j)) tree used text
+  pub scan-below-depth : Passed Closing config s i j → (path : List Key) (level : ℕ) (x : List ℕ) (env : Environment) (tree : Node) (used : Used)
+      → from config env s i (keyBelowDepth path level x) tree used ≡ from config env s j (keyBelowDepth path level (x ++ segment s i j)) tree used
   scan-below-depth p path level = passed-from p (keyBelowDepth path level) (below-depth-lengthens config path level)
 
-  pub scan-at-depth : Passed KeyAtDepth config s i j → (path : List Key) (x : List ℕ) (lent : Lent) (tree : Value) (used : ℕ) (text : List ℕ)
-      → from config lent s i (keyAtDepth path x) tree used text ≡ from config lent s j (keyAtDepth path (x ++ segment s i j)) tree used text
+  pub scan-at-depth : Passed KeyAtDepth config s i j → (path : List Key) (x : List ℕ) (env : Environment) (tree : Node) (used : Used)
+      → from config env s i (keyAtDepth path x) tree used ≡ from config env s j (keyAtDepth path (x ++ segment s i j)) tree used
   scan-at-depth p path = passed-from p (keyAtDepth path) (at-depth-lengthens config path)
 
-  pub scan-root : (nests : Bool) → nests ≡ not (eqb (config .depth) 0) → Passed (RootKey nests) config s i j → (lent : Lent) (tree : Value) (used : ℕ) (text : List ℕ)
-      → from config lent s i (rootKey []) tree used text ≡ from config lent s j (rootKey (segment s i j)) tree used text
+  pub scan-root : (nests : Bool) → nests ≡ not (eqb (config .depth) 0) → Passed (RootKey nests) config s i j → (env : Environment) (tree : Node) (used : Used)
+      → from config env s i (rootKey []) tree used ≡ from config env s j (rootKey (segment s i j)) tree used
   scan-root nests q p = passed-from p rootKey (root-lengthens config nests q) []
 
 -- The loop of `take_until`, which started at a cursor and has come to another.

@@ -10,8 +10,8 @@ use lib.ListN.{length, length-append}
 use Rattle.laws.proofs.Cases.{true-false}
 use Rattle.config.specs.declared.Config.{Config}
 use Rattle.key.specs.Keys.{Key}
-use Rattle.reading.specs.Values.{Value}
-use Rattle.reading.specs.Charging.{Lent, made}
+use Rattle.reading.specs.Values.{Node}
+use Rattle.reading.specs.Charging.{Environment, Used, made}
 use Rattle.refusals.specs.Codes.{code}
 use Rattle.reading.specs.Taking.{Symbol, ampersand, equals, opening, closing, other}
 use Rattle.reading.specs.Scanning.{Target, Mode, rootKey, value, keyBelowDepth, keyAtDepth, Step, _then_, step, finish}
@@ -31,6 +31,7 @@ use Rattle.cursor.proofs.Segments.{length-segment}
 use Rattle.cursor.proofs.From.{from-take, from-end}
 use Rattle.cursor.proofs.Scans.{scan-value, scan-below-depth, scan-at-depth, scan-root}
 use Rattle.tree.specs.declared.Here.{Here}
+use Rattle.tree.specs.Stored.{usedBy}
 use Rattle.pairs.specs.declared.turning.Turn.{Turn}
 use Rattle.pairs.specs.declared.turning.Turn.the-variants.{Going, Refused}
 use Rattle.pairs.specs.declared.turning.Level.{Level}
@@ -75,13 +76,13 @@ as-level t = record { levels = t .turns }
 -- The same tree at a place not before, where another step is due: with the same answer, and covered by the bytes taken.
 module _ {config : Config} {input W X : List ℕ} {h : Here} {i j : ℕ} {due due′ : List Key → Step} {a : Answer} where
   reads-as : i ≤ j → j ≤ length input + 1 → (y : Reads config input W X h i due a)
-      → after config (y .lent) input j (due′ (y .path) .command) (due′ (y .path) .next) (y .tree) (h .records) (y .laid)
-      ≡ after config (y .lent) input i (due (y .path) .command) (due (y .path) .next) (y .tree) (h .records) (y .laid)
-      → Gives (Covered j (due′ (y .path) .next)) Whatever (perform (y .lent) (due′ (y .path) .command) (y .tree) (h .records) (y .laid))
+      → after config (y .env) input j (due′ (y .path) .command) (due′ (y .path) .next) (y .tree) (usedBy h (y .laid))
+      ≡ after config (y .env) input i (due (y .path) .command) (due (y .path) .next) (y .tree) (usedBy h (y .laid))
+      → Gives (Covered j (due′ (y .path) .next)) Whatever (perform (y .env) (due′ (y .path) .command) (y .tree) (usedBy h (y .laid)))
       → Reads config input W X h j due′ a
   reads-as l w y e c =
       record {
-        lent = y .lent;
+        env = y .env;
         path = y .path;
         tree = y .tree;
         laid = y .laid;
@@ -100,36 +101,36 @@ pub due-as : {config : Config} {input W X : List ℕ} {h : Here} {i : ℕ} {due 
 due-as {config} {input} {W} {X} {h} {i} {due} due′ e =
     record {
       moves = λ a y. reads-as (omega arith) (y .within) y
-          (ap (λ (s : Step). after config (y .lent) input i (s .command) (s .next) (y .tree) (h .records) (y .laid)) (sym (e (y .path))))
-          (subst (λ (s : Step). Gives (Covered i (s .next)) Whatever (perform (y .lent) (s .command) (y .tree) (h .records) (y .laid)))
+          (ap (λ (s : Step). after config (y .env) input i (s .command) (s .next) (y .tree) (usedBy h (y .laid))) (sym (e (y .path))))
+          (subst (λ (s : Step). Gives (Covered i (s .next)) Whatever (perform (y .env) (s .command) (y .tree) (usedBy h (y .laid))))
           (e (y .path)) (y .covered));
     }
 
 -- The bytes taken cover what is used where nothing is due.
-made-covered : {P : Value → ℕ → List ℕ → Type 0} {v : Value} {n : ℕ} {t : List ℕ} → Gives P Whatever (made v n t) → P v n t
+made-covered : {P : Node → Used → Type 0} {v : Node} {u : Used} → Gives P Whatever (made v u) → P v u
 made-covered (gives p) = p
 
 -- From one mode to another, at a place not before: the same reading, and the bytes taken cover what the second needs.
 mode-move : {config : Config} {input W X : List ℕ} {h : Here} {i j : ℕ} (m m′ : List Key → Mode) → i ≤ j → j ≤ length input + 1
-    → ((lent : Lent) (path : List Key) (v : Value) (n : ℕ) (t : List ℕ) → from config lent input i (m path) v n t ≡ from config lent input j (m′ path) v n t)
-    → ((path : List Key) (v : Value) (n : ℕ) (t : List ℕ) → Covered i (m path) v n t → Covered j (m′ path) v n t)
+    → ((env : Environment) (path : List Key) (v : Node) (u : Used) → from config env input i (m path) v u ≡ from config env input j (m′ path) v u)
+    → ((path : List Key) (v : Node) (u : Used) → Covered i (m path) v u → Covered j (m′ path) v u)
     → Move config input W X h i (still m) W X h j (still m′)
 mode-move {h = h} m m′ l w e f =
     record {
-      moves = λ a y. reads-as l w y (sym (e (y .lent) (y .path) (y .tree) (h .records) (y .laid)))
-          (gives (f (y .path) (y .tree) (h .records) (y .laid) (made-covered (y .covered))));
+      moves = λ a y. reads-as l w y (sym (e (y .env) (y .path) (y .tree) (usedBy h (y .laid))))
+          (gives (f (y .path) (y .tree) (usedBy h (y .laid)) (made-covered (y .covered))));
     }
 
 -- A taking.
 take-covered : {config : Config} {s : List ℕ} {i j : ℕ} {symbol : Symbol} → Takes config s i symbol j
-    → (lent : Lent) (m : Mode) (v : Value) (n : ℕ) (t : List ℕ) → Covered i m v n t
-    → Gives (Covered j (step config m symbol (segment s i j) .next)) Whatever (perform lent (step config m symbol (segment s i j) .command) v n t)
-take-covered {config} {s} {i} {j} {symbol} k lent m v n t c =
+    → (env : Environment) (m : Mode) (v : Node) (u : Used) → Covered i m v u
+    → Gives (Covered j (step config m symbol (segment s i j) .next)) Whatever (perform env (step config m symbol (segment s i j) .command) v u)
+take-covered {config} {s} {i} {j} {symbol} k env m v u c =
     let e : i + length (k .first ∷ k .others) ≡ j = ap (λ (l : List ℕ). i + length l) (k .raw) ∙ place in
-    subst (λ (l : List ℕ). Gives (Covered j (step config m symbol l .next)) Whatever (perform lent (step config m symbol l .command) v n t)) (k .raw)
+    subst (λ (l : List ℕ). Gives (Covered j (step config m symbol l .next)) Whatever (perform env (step config m symbol l .command) v u)) (k .raw)
     (subst (λ (p : ℕ). Gives (Covered p (step config m symbol (k .first ∷ k .others) .next)) Whatever
-    (perform lent (step config m symbol (k .first ∷ k .others) .command) v n t)) e
-    (gives-map (λ w q u g. g) (λ x g. tt) (step-covered config lent m symbol (k .first) (k .others) i v n t c)))
+    (perform env (step config m symbol (k .first ∷ k .others) .command) v u)) e
+    (gives-map (λ w z g. g) (λ x g. tt) (step-covered config env m symbol (k .first) (k .others) i v u c)))
   where
     place : i + length (segment s i j) ≡ j
     place = rw (length-segment s i j (omega (arith, k .on)) (k .within)) (omega (arith, k .on))
@@ -139,8 +140,8 @@ take-move : {config : Config} {s W X : List ℕ} {h : Here} {i j : ℕ} {symbol 
 take-move {h = h} k m =
     record {
       moves = λ a y. reads-as (omega (arith, k .on)) (omega (arith, k .within)) y
-          (sym (from-take k (y .lent) (m (y .path)) (y .tree) (h .records) (y .laid)))
-          (take-covered k (y .lent) (m (y .path)) (y .tree) (h .records) (y .laid) (made-covered (y .covered)));
+          (sym (from-take k (y .env) (m (y .path)) (y .tree) (usedBy h (y .laid))))
+          (take-covered k (y .env) (m (y .path)) (y .tree) (usedBy h (y .laid)) (made-covered (y .covered)));
     }
 
 -- The end taken.
@@ -149,9 +150,9 @@ end-move : {config : Config} {s W X : List ℕ} {h : Here} {i j : ℕ} → Takes
 end-move {config} {h = h} {i} {j} k m =
     record {
       moves = λ a y. reads-as (omega (arith, k .on)) (omega (arith, k .on, k .at-end)) y
-          (sym (from-end k config (y .lent) (m (y .path)) (y .tree) (h .records) (y .laid)))
-          (gives-map (λ w q u g. g) (λ x g. tt)
-          (finish-covered config (y .lent) (m (y .path)) i j (y .tree) (h .records) (y .laid) (omega (arith, k .on)) (made-covered (y .covered))));
+          (sym (from-end k config (y .env) (m (y .path)) (y .tree) (usedBy h (y .laid))))
+          (gives-map (λ w z g. g) (λ x g. tt)
+          (finish-covered config (y .env) (m (y .path)) i j (y .tree) (usedBy h (y .laid)) (omega (arith, k .on)) (made-covered (y .covered))));
     }
 
 pub took-move : {config : Config} {s W X : List ℕ} {h : Here} {i j : ℕ} (o : Option Symbol) → Took config s i o j → (m : List Key → Mode)
@@ -172,31 +173,31 @@ module _ {config : Config} {s : List ℕ} {i j : ℕ} (l : i ≤ j) (w : j ≤ l
   pub value-scan : {W X : List ℕ} {h : Here} → Passed ValueScan config s i j → (target : List Key → Target)
       → Move config s W X h i (still (λ path. value (target path) [])) W X h j (still (λ path. value (target path) (segment s i j)))
   value-scan p target =
-      mode-move (λ path. value (target path) []) (λ path. value (target path) (segment s i j)) l (omega arith) (λ lent path. scan-value p (target path) lent)
-      (λ path v n t c. record { records = omega (arith, c .records); bytes = omega (arith, c .bytes, length-segment s i j l w) })
+      mode-move (λ path. value (target path) []) (λ path. value (target path) (segment s i j)) l (omega arith) (λ env path. scan-value p (target path) env)
+      (λ path v u c. record { records = omega (arith, c .records); bytes = omega (arith, c .bytes, length-segment s i j l w) })
 
   pub below-scan : {W X : List ℕ} {h : Here} → Passed Closing config s i j → (level : ℕ) (x : List ℕ)
       → Move config s W X h i (still (λ path. keyBelowDepth path level x)) W X h j (still (λ path. keyBelowDepth path level (x ++ segment s i j)))
   below-scan p level x =
       mode-move (λ path. keyBelowDepth path level x) (λ path. keyBelowDepth path level (x ++ segment s i j)) l (omega arith)
-      (λ lent path. scan-below-depth p path level x lent)
-      (λ path v n t c. record { records = omega (arith, c .records); bytes = omega (arith, c .bytes, length-segment s i j l w, length-append x (segment s i j)) })
+      (λ env path. scan-below-depth p path level x env)
+      (λ path v u c. record { records = omega (arith, c .records); bytes = omega (arith, c .bytes, length-segment s i j l w, length-append x (segment s i j)) })
 
   pub at-scan : {W X : List ℕ} {h : Here} → Passed KeyAtDepth config s i j → (x : List ℕ)
       → Move config s W X h i (still (λ path. keyAtDepth path x)) W X h j (still (λ path. keyAtDepth path (x ++ segment s i j)))
   at-scan p x =
-      mode-move (λ path. keyAtDepth path x) (λ path. keyAtDepth path (x ++ segment s i j)) l (omega arith) (λ lent path. scan-at-depth p path x lent)
-      (λ path v n t c. record { records = omega (arith, c .records); bytes = omega (arith, c .bytes, length-segment s i j l w, length-append x (segment s i j)) })
+      mode-move (λ path. keyAtDepth path x) (λ path. keyAtDepth path (x ++ segment s i j)) l (omega arith) (λ env path. scan-at-depth p path x env)
+      (λ path v u c. record { records = omega (arith, c .records); bytes = omega (arith, c .bytes, length-segment s i j l w, length-append x (segment s i j)) })
 
   pub root-scan : {W X : List ℕ} {h : Here} {nests : Bool} → nests ≡ not (eqb (config .depth) 0) → Passed (RootKey nests) config s i j
       → Move config s W X h i (still (λ path. rootKey [])) W X h j (still (λ path. rootKey (segment s i j)))
   root-scan {nests = nests} e p =
-      mode-move (λ path. rootKey []) (λ path. rootKey (segment s i j)) l (omega arith) (λ lent path. scan-root nests e p lent)
-      (λ path v n t c. root-covered (segment s i j) (length-segment s i j l w) v n t c)
+      mode-move (λ path. rootKey []) (λ path. rootKey (segment s i j)) l (omega arith) (λ env path. scan-root nests e p env)
+      (λ path v u c. root-covered (segment s i j) (length-segment s i j l w) v u c)
     where
-      root-covered : (x : List ℕ) → length x ≡ j - i → (v : Value) (n : ℕ) (t : List ℕ) → Covered i (rootKey []) v n t → Covered j (rootKey x) v n t
-      root-covered [] e v n t c = record { records = omega (arith, c .records); bytes = omega (arith, c .bytes) }
-      root-covered (b ∷ x) e v n t c = record { records = omega (arith, c .records); bytes = omega (arith, c .bytes) }
+      root-covered : (x : List ℕ) → length x ≡ j - i → (v : Node) (u : Used) → Covered i (rootKey []) v u → Covered j (rootKey x) v u
+      root-covered [] e v u c = record { records = omega (arith, c .records); bytes = omega (arith, c .bytes) }
+      root-covered (b ∷ x) e v u c = record { records = omega (arith, c .records); bytes = omega (arith, c .bytes) }
 
 -- A step that `&` and the end make alike.
 pub ends-step : (config : Config) (m : Mode) (o : Option Symbol) (raw : List ℕ) → stops ValueScan o ≡ true

@@ -5,13 +5,14 @@ use mathlib.Core.List.{List, [], _∷_, _++_}
 use native.Mathlib.Omega.{arith}
 use lib.ListN.{length}
 use Rattle.config.specs.declared.Config.{Config}
+use Rattle.config.specs.Limits.{maxLen}
 use Rattle.key.specs.Keys as keys
-use Rattle.reading.specs.Values.{Value}
+use Rattle.reading.specs.Values.{Node}
 use Rattle.reading.specs.Leaves as leaves
-use Rattle.reading.specs.Charging.{Lent, Made}
+use Rattle.reading.specs.Charging.{Environment, Used, Made}
 use Rattle.refusals.specs.declared.Refusal.{Refusal}
 use Rattle.reading.specs.Scanning.{root, under, last, Command, enter, add, Mode, rootKey, bracket, Step, _then_}
-use Rattle.reading.specs.Adding.{appendValue, atPath}
+use Rattle.reading.specs.Adding.{appendValue}
 use Rattle.reading.specs.Running.{Answer, refusedAt, perform, resume}
 use Rattle.reading.specs.Covering.{Gives, gives, Whatever, Covered}
 use Rattle.cursor.specs.declared.taking.Cursor.{Cursor}
@@ -26,8 +27,8 @@ use Rattle.tree.specs.declared.Here.{Here}
 use Rattle.tree.specs.declared.Performed.{Performed}
 use Rattle.tree.specs.declared.Performed.the-variants.{Made as MadeHere, Refused as RefusedThere}
 use Rattle.tree.specs.Leaves.{leafOf}
-use Rattle.tree.specs.Stored.{Stands}
-use Rattle.tree.specs.Commands.{After, stood, stopped, Does, Countable}
+use Rattle.tree.specs.Stored.{usedBy, Stands}
+use Rattle.tree.specs.Commands.{After, stood, stopped, Does, along, Countable}
 use Rattle.tree.proofs.Standing.{some as standing, at-root}
 use Rattle.pairs.specs.declared.turning.Turn.{Turn}
 use Rattle.pairs.specs.declared.turning.Turn.the-variants.{Refused}
@@ -46,23 +47,24 @@ able r =
     record { stands = standing (y .stands); records = omega (arith, y .records, y .within, y .small); bytes = omega (arith, y .bytes, y .within, y .small) }
 
 -- A performed command, by its refusal or what it made.
-refused-reads : {answer : Answer} {lent : Lent} {W X : List ℕ} {path : List keys.Key} {i : ℕ} {x : Refusal} {M : Made Value} (onward : Value → ℕ → List ℕ → Answer)
-    → After lent W X path (RefusedThere x) M → resume i M onward ≡ answer → answer ≡ refusedAt x i
+refused-reads : {answer : Answer} {env : Environment} {W X : List ℕ} {path : List keys.Key} {i : ℕ} {x : Refusal} {M : Made Node} (onward : Node → Used → Answer)
+    → After env W X path (RefusedThere x) M → resume i M onward ≡ answer → answer ≡ refusedAt x i
 refused-reads onward stopped k = sym k
 
-module _ {config : Config} {input : List ℕ} {i : ℕ} {answer : Answer} {lent : Lent} {W X : List ℕ} {path : List keys.Key} {m : Mode}
-    (small : length input ≤ 65535) (within : i ≤ length input + 1) where
-  made-reads : {there : Here} {M : Made Value} (m′ : List keys.Key → Mode) → m ≡ m′ path → After lent W X path (MadeHere there) M → Gives (Covered i m) Whatever M
-      → resume i M (λ v n t. from config lent input i m v n t) ≡ answer → Reads config input W X there i (still m′) answer
-  made-reads {there} m′ e (stood {tree = v} {used = n} {laid = t} q st) (gives c) k =
+module _ {config : Config} {input : List ℕ} {i : ℕ} {answer : Answer} {env : Environment} {W X : List ℕ} {path : List keys.Key} {m : Mode}
+    (small : length input ≤ maxLen) (within : i ≤ length input + 1) where
+  made-reads : {there : Here} {M : Made Node} (m′ : List keys.Key → Mode) → m ≡ m′ path → After env W X path (MadeHere there) M → Gives (Covered i m) Whatever M
+      → resume i M (λ v u. from config env input i m v u) ≡ answer → Reads config input W X there i (still m′) answer
+  made-reads {there} m′ e (stood {tree = v} {used = n} q st) (gives c) k =
+      let same : n ≡ usedBy there (n .text) = ap (λ (z : ℕ). record { records = z; text = n .text }) q in
       record {
-        lent = lent;
+        env = env;
         path = path;
         tree = v;
-        laid = t;
+        laid = n .text;
         stands = st;
-        onward = ap (λ (z : Mode). from config lent input i z v (there .records) t) (sym e) ∙ ap (λ (z : ℕ). from config lent input i m v z t) (sym q) ∙ k;
-        covered = gives (subst (λ (z : Mode). Covered i z v (there .records) t) e (subst (λ (z : ℕ). Covered i m v z t) q c));
+        onward = ap (λ (z : Mode). from config env input i z v (usedBy there (n .text))) (sym e) ∙ ap (λ (z : Used). from config env input i m v z) (sym same) ∙ k;
+        covered = gives (subst (λ (z : Mode). Covered i z v (usedBy there (n .text))) e (subst (λ (z : Used). Covered i m v z) same c));
         records = omega (arith, c .records, q);
         bytes = omega (arith, c .bytes, st .stores .fill);
         small = small;
@@ -70,7 +72,7 @@ module _ {config : Config} {input : List ℕ} {i : ℕ} {answer : Answer} {lent 
       }
 
 module _ {W X W′ X′ : List ℕ} {h : Here} {r : Performed} (c : List keys.Key → Command) (to : List keys.Key → List keys.Key)
-    (d : Does W X W′ X′ h (λ lent path. perform lent (c path)) to r) where
+    (d : Does W X W′ X′ h (λ env path. perform env (c path)) to r) where
   -- The reading goes on at the record that is answered.
   pub made-move : {config : Config} {input : List ℕ} {i : ℕ} {there : Here} → r ≡ MadeHere there → (m m′ : List keys.Key → Mode)
       → ((path : List keys.Key) → m path ≡ m′ (to path))
@@ -78,8 +80,8 @@ module _ {W X W′ X′ : List ℕ} {h : Here} {r : Performed} (c : List keys.Ke
   made-move e m m′ f =
       record {
         moves = λ a y. made-reads (y .small) (y .within) m′ (f (y .path))
-            (subst (λ (z : Performed). After (y .lent) W′ X′ (to (y .path)) z (perform (y .lent) (c (y .path)) (y .tree) (h .records) (y .laid))) e
-            (d (y .lent) (y .path) (y .tree) (y .laid) (y .stands)))
+            (subst (λ (z : Performed). After (y .env) W′ X′ (to (y .path)) z (perform (y .env) (c (y .path)) (y .tree) (usedBy h (y .laid)))) e
+            (d (y .env) (y .path) (y .tree) (y .laid) (y .stands)))
             (y .covered) (y .onward);
       }
 
@@ -88,9 +90,9 @@ module _ {W X W′ X′ : List ℕ} {h : Here} {r : Performed} (c : List keys.Ke
       → (m : List keys.Key → Mode) → Turns config input W X W″ X″ h i (λ path. c path then m path) low (Refused x i)
   refused-turns {config} {input} {i} e m =
       record {
-        turns = λ a y. refused-reads (from config (y .lent) input i (m (y .path)))
-            (subst (λ (z : Performed). After (y .lent) W′ X′ (to (y .path)) z (perform (y .lent) (c (y .path)) (y .tree) (h .records) (y .laid))) e
-            (d (y .lent) (y .path) (y .tree) (y .laid) (y .stands)))
+        turns = λ a y. refused-reads (from config (y .env) input i (m (y .path)))
+            (subst (λ (z : Performed). After (y .env) W′ X′ (to (y .path)) z (perform (y .env) (c (y .path)) (y .tree) (usedBy h (y .laid)))) e
+            (d (y .env) (y .path) (y .tree) (y .laid) (y .stands)))
             (y .onward);
       }
 
@@ -108,7 +110,7 @@ pub refuse-turns : (x : Refusal) {config : Config} {input W X W′ X′ : List �
 refuse-turns x = record { turns = λ a y. sym (y .onward) }
 
 -- A key is entered, and a `[` opens the next level.
-pub entered-levels : {W X W′ X′ : List ℕ} {h : Here} {r : Performed} {k : keys.Key} → Does W X W′ X′ h (λ lent path. perform lent (enter path k)) (λ path. path ++ (k ∷ [])) r
+pub entered-levels : {W X W′ X′ : List ℕ} {h : Here} {r : Performed} {k : keys.Key} → Does W X W′ X′ h (λ env path. perform env (enter path k)) (λ path. path ++ (k ∷ [])) r
     → (cursor : Cursor) {config : Config} {input : List ℕ} {level : ℕ} {z : Level} → z ≡ levelOf r level cursor → cursor .end ≤ cursor .place → cursor .place ≤ length input
     → Levels config input W X W′ X′ h (cursor .place)
     (λ path. enter path k then bracket (path ++ (k ∷ [])) level (segment input (cursor .end) (cursor .place))) (cursor .place) z
@@ -159,23 +161,23 @@ able-two {input} y a b k a′ b′ k′ =
     (y .records, omega (arith, y .bytes, length-segment input a b (k .0) (k .1), k .0, k .1, length-segment input a′ b′ (k′ .0) (k′ .1), k′ .0, k′ .1))
 
 module _ {W X W′ X′ : List ℕ} {h : Here} {r : Performed} where
-  pub enter-does : {k k′ : keys.Key} → k ≡ k′ → Does W X W′ X′ h (λ lent path. perform lent (enter path k)) (λ path. path ++ (k ∷ [])) r
-      → Does W X W′ X′ h (λ lent path. perform lent (enter path k′)) (λ path. path ++ (k′ ∷ [])) r
-  enter-does e d = subst (λ (k : keys.Key). Does W X W′ X′ h (λ lent path. perform lent (enter path k)) (λ path. path ++ (k ∷ [])) r) e d
+  pub enter-does : {k k′ : keys.Key} → k ≡ k′ → Does W X W′ X′ h (λ env path. perform env (enter path k)) (λ path. path ++ (k ∷ [])) r
+      → Does W X W′ X′ h (λ env path. perform env (enter path k′)) (λ path. path ++ (k′ ∷ [])) r
+  enter-does e d = subst (λ (k : keys.Key). Does W X W′ X′ h (λ env path. perform env (enter path k)) (λ path. path ++ (k ∷ [])) r) e d
 
-  pub insert-does : {k k′ : keys.Key} {x x′ : leaves.Leaf} → k ≡ k′ → x ≡ x′ → Does W X W′ X′ h (λ lent path. perform lent (add (under path k) x)) (λ path. path ++ (k ∷ [])) r
-      → Does W X W′ X′ h (λ lent path. perform lent (add (under path k′) x′)) (λ path. path ++ (k′ ∷ [])) r
+  pub insert-does : {k k′ : keys.Key} {x x′ : leaves.Leaf} → k ≡ k′ → x ≡ x′ → Does W X W′ X′ h (λ env path. perform env (add (under path k) x)) (λ path. path ++ (k ∷ [])) r
+      → Does W X W′ X′ h (λ env path. perform env (add (under path k′) x′)) (λ path. path ++ (k′ ∷ [])) r
   insert-does {k′ = k′} {x = x} e f d =
-      subst (λ (x : leaves.Leaf). Does W X W′ X′ h (λ lent path. perform lent (add (under path k′) x)) (λ path. path ++ (k′ ∷ [])) r) f
-      (subst (λ (k : keys.Key). Does W X W′ X′ h (λ lent path. perform lent (add (under path k) x)) (λ path. path ++ (k ∷ [])) r) e d)
+      subst (λ (x : leaves.Leaf). Does W X W′ X′ h (λ env path. perform env (add (under path k′) x)) (λ path. path ++ (k′ ∷ [])) r) f
+      (subst (λ (k : keys.Key). Does W X W′ X′ h (λ env path. perform env (add (under path k) x)) (λ path. path ++ (k ∷ [])) r) e d)
 
-  pub push-does : {x x′ : leaves.Leaf} → x ≡ x′ → Does W X W′ X′ h (λ lent path. perform lent (add (last path) x)) (λ path. path) r
-      → Does W X W′ X′ h (λ lent path. perform lent (add (last path) x′)) (λ path. path) r
-  push-does e d = subst (λ (x : leaves.Leaf). Does W X W′ X′ h (λ lent path. perform lent (add (last path) x)) (λ path. path) r) e d
+  pub push-does : {x x′ : leaves.Leaf} → x ≡ x′ → Does W X W′ X′ h (λ env path. perform env (add (last path) x)) (λ path. path) r
+      → Does W X W′ X′ h (λ env path. perform env (add (last path) x′)) (λ path. path) r
+  push-does e d = subst (λ (x : leaves.Leaf). Does W X W′ X′ h (λ env path. perform env (add (last path) x)) (λ path. path) r) e d
 
   -- At the root, whatever path leads there.
-  pub root-does : {x x′ : leaves.Leaf} → h .node ≡ 0 → x ≡ x′ → Does W X W′ X′ h (λ lent path. atPath path (appendValue lent x)) (λ path. path) r
-      → Does W X W′ X′ h (λ lent path. perform lent (add root x′)) (λ path. []) r
+  pub root-does : {x x′ : leaves.Leaf} → h .node ≡ 0 → x ≡ x′ → Does W X W′ X′ h (λ env path. along path (appendValue env x)) (λ path. path) r
+      → Does W X W′ X′ h (λ env path. perform env (add root x′)) (λ path. []) r
   root-does {x} {x′} z e d =
-      λ lent path tree laid st. subst (λ (y : leaves.Leaf). After lent W′ X′ [] r (appendValue lent y tree (h .records) laid)) e
-      (d lent [] tree laid (subst (λ (n : ℕ). Stands lent W X (record { records = h .records; bytes = h .bytes; node = n }) [] tree laid) (sym z) (at-root st)))
+      λ env path tree laid st. subst (λ (y : leaves.Leaf). After env W′ X′ [] r (appendValue env y (tree .row) (tree .value) (usedBy h laid))) e
+      (d env [] tree laid (subst (λ (n : ℕ). Stands env W X (record { records = h .records; bytes = h .bytes; node = n }) [] tree laid) (sym z) (at-root st)))

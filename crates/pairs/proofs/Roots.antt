@@ -34,6 +34,7 @@ use Rattle.cursor.proofs.From.{from-none}
 use Rattle.cursor.proofs.Scans.{scan-bounds}
 use Rattle.cursor.proofs.Collected.{collected-none, collected-some}
 use Rattle.tree.specs.declared.Here.{Here}
+use Rattle.tree.specs.Stored.{usedBy}
 use Rattle.tree.proofs.Standing.{at-root}
 use Rattle.pairs.specs.declared.turning.Turn.{Turn}
 use Rattle.pairs.specs.declared.turning.Turn.the-variants.{Going, Refused}
@@ -48,7 +49,7 @@ root-reads : {config : Config} {s W X : List ℕ} {h : Here} {i : ℕ} {due : Li
 root-reads {config} {s} {W} {X} {h} {i} {due} due′ e y =
     let z = due-as (λ path. due′ []) e .moves _ y in
     record {
-      lent = z .lent;
+      env = z .env;
       path = [];
       tree = z .tree;
       laid = z .laid;
@@ -246,4 +247,4 @@ module _ {config : Config} {s W₀ X₀ : List ℕ} {h₀ : Here} {W X : List �
   pub rooting-done : length s ≤ i → (a : Answer) → Reads config s W₀ X₀ h₀ 0 (still (λ path. rootKey [])) a → Accepts a W X h
   rooting-done l a y =
       let z = v .move .moves a y in
-      record { tree = z .tree; laid = z .laid; stores = z .stands .stores; is = sym (z .onward) ∙ from-none config (z .lent) s i l (z .tree) (h .records) (z .laid) }
+      record { tree = z .tree; laid = z .laid; stores = z .stands .stores; is = sym (z .onward) ∙ from-none config (z .env) s i l (z .tree) (usedBy h (z .laid)) }

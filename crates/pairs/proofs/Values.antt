@@ -44,7 +44,7 @@ value-move {config} {s} {place = place} {found = found} g target =
 
 pub value-turns : {config : Config} {s W X W′ X′ : List ℕ} {h : Here} {place : ℕ} {found : CollectedValue} → ValueIs config s place found
     → (target : List keys.Key → Target) (to : List keys.Key → List keys.Key) {r : Performed} → Does W X W′ X′ h
-    (λ lent path. perform lent (add (target path) (decodedLeaf s (found .leaf)))) to r
+    (λ env path. perform env (add (target path) (decodedLeaf s (found .leaf)))) to r
     → {turn : Turn} → turn ≡ turnOf r (found .place) → Turns config s W X W′ X′ h place (still (λ path. value (target path) [])) place turn
 value-turns {s = s} {found = found} g target to d e =
     turns-on (value-move g target) (omega (arith, scan-bounds (g .scan) .on)) (performed-turns (λ path. add (target path) (decodedLeaf s (found .leaf))) to d e)
@@ -72,7 +72,7 @@ module _ {config : Config} {s : List ℕ} {cursor : Cursor} {taken : Taken} {i :
 -- A `[` after a key: the key is entered, and the next level opens.
 pub opening-levels : {config : Config} {s W X W′ X′ : List ℕ} {h : Here} {cursor : Cursor} {taken : Taken} {i : ℕ} → Next config s cursor taken
     → cursor .place ≡ i → taken .symbol ≡ Opening
-    → (level : ℕ) {k : keys.Key} {r : Performed} {z : Level} → Does W X W′ X′ h (λ lent path. perform lent (enter path k)) (λ path. path ++ (k ∷ []))
+    → (level : ℕ) {k : keys.Key} {r : Performed} {z : Level} → Does W X W′ X′ h (λ env path. perform env (enter path k)) (λ path. path ++ (k ∷ []))
     r → z ≡ levelOf r (level + 1) (taken .cursor)
     → Levels config s W X W′ X′ h i (still (λ path. afterKey path level k)) i z
 opening-levels {config} {s} {taken = taken} n e q level {k = k} d f =

@@ -7,15 +7,15 @@ use lib.ListN.{length}
 use Rattle.config.specs.declared.Config.{Config}
 use Rattle.config.specs.Limits.{maxLen}
 use Rattle.key.specs.Keys.{Key}
-use Rattle.reading.specs.Values.{Value}
-use Rattle.reading.specs.Charging.{Lent}
+use Rattle.reading.specs.Values.{Node}
+use Rattle.reading.specs.Charging.{Environment}
 use Rattle.reading.specs.Taking.{Symbol}
 use Rattle.reading.specs.Scanning.{Mode, rootKey, skip, Step, _then_, step, finish}
 use Rattle.reading.specs.Running.{Answer, perform}
 use Rattle.reading.specs.Covering.{Gives, Whatever, Covered}
 use Rattle.cursor.specs.From.{after}
 use Rattle.tree.specs.declared.Here.{Here}
-use Rattle.tree.specs.Stored.{Stands, Standing}
+use Rattle.tree.specs.Stored.{usedBy, Stands, Standing}
 
 -- Nothing is due but to go on in a mode. Here and below, what is due depends on the path that leads to the record where the tree stands.
 abbrev pub still : (List Key → Mode) → List Key → Step
@@ -29,13 +29,13 @@ stepBy config mode none raw = finish config mode then rootKey []
 -- At a place, a tree stands in the words and the text, a step is due, and what is read from there on is this answer. The bytes taken cover what
 -- is used and, once the step is made, what its mode may still need (reading's specs/Covering): so no count outgrows a u32, however much is lent.
 pub record Reads (config : Config) (input words text : List ℕ) (here : Here) (place : ℕ) (due : List Key → Step) (answer : Answer) : Type 0 where
-  pub lent : Lent
+  pub env : Environment
   pub path : List Key
-  pub tree : Value
+  pub tree : Node
   pub laid : List ℕ
-  pub stands : Stands lent words text here path tree laid
-  pub onward : after config lent input place (due path .command) (due path .next) tree (here .records) laid ≡ answer
-  pub covered : Gives (Covered place (due path .next)) Whatever (perform lent (due path .command) tree (here .records) laid)
+  pub stands : Stands env words text here path tree laid
+  pub onward : after config env input place (due path .command) (due path .next) tree (usedBy here laid) ≡ answer
+  pub covered : Gives (Covered place (due path .next)) Whatever (perform env (due path .command) tree (usedBy here laid))
   pub records : here .records ≤ place + 1
   pub bytes : here .bytes ≤ place
   pub small : length input ≤ maxLen

@@ -7,7 +7,7 @@ use lib.Dec.{eqb, ltb}
 use lib.ListN.{length}
 use Rattle.config.specs.declared.Config.{Config}
 use Rattle.key.specs.Keys.{Key}
-use Rattle.reading.specs.Values.{Value}
+use Rattle.reading.specs.Values.{Node}
 use Rattle.reading.specs.Scanning.{Mode, rootKey, bracket, keyBelowDepth, keyAtDepth, Step}
 use Rattle.reading.specs.Running.{Answer, accepted, refusedAt}
 use Rattle.cursor.specs.declared.taking.Cursor.{Cursor}
@@ -19,7 +19,7 @@ use Rattle.cursor.specs.Scans.{stops}
 use Rattle.tree.specs.declared.Here.{Here}
 use Rattle.tree.specs.declared.Performed.{Performed}
 use Rattle.tree.specs.declared.Performed.the-variants.{Made, Refused as RefusedThere}
-use Rattle.tree.specs.Stored.{Stores}
+use Rattle.tree.specs.Stored.{Stores, usedBy}
 use Rattle.pairs.specs.declared.turning.Turn.{Turn}
 use Rattle.pairs.specs.declared.turning.Turn.the-variants.{Going, Refused}
 use Rattle.pairs.specs.declared.turning.Nested.{Nested}
@@ -81,10 +81,10 @@ pub record Levels (config : Config) (input words text words′ text′ : List �
 
 -- The whole input is read: what is accepted stands in the words and the text.
 pub record Accepts (answer : Answer) (words text : List ℕ) (here : Here) : Type 0 where
-  pub tree : Value
+  pub tree : Node
   pub laid : List ℕ
   pub stores : Stores words text (here .records) (here .bytes) tree laid
-  pub is : answer ≡ accepted tree (here .records) laid
+  pub is : answer ≡ accepted tree (usedBy here laid)
 
 abbrev pub Ends : Answer → List ℕ → List ℕ → Turn → Type 0
 Ends answer words text (Going place here) = Accepts answer words text here

@@ -81,7 +81,7 @@ pub(crate) fn enter(
 ) -> Performed
     requires { ⌜ Able (now input) (now words) (now text) here × KeyBounds (now input) key ⌝ }
     ensures { λ r. ⌜ Does (now (words .entry)) (now (text .entry)) (now (words .exit)) (now (text .exit)) here
-        (λ lent path. perform lent (enter path (decodedKey (now (input .entry)) key)))
+        (λ env path. perform env (enter path (decodedKey (now (input .entry)) key)))
         (λ path. path ++ (decodedKey (now (input .entry)) key ∷ [])) r ⌝ }
 {
     let segment = key_segment(key);
@@ -102,7 +102,7 @@ pub(crate) fn insert_unique(
 ) -> Performed
     requires { ⌜ Able (now input) (now words) (now text) here × KeyBounds (now input) key × LeafBounds (now input) leaf ⌝ }
     ensures { λ r. ⌜ Does (now (words .entry)) (now (text .entry)) (now (words .exit)) (now (text .exit)) here
-        (λ lent path. perform lent (add (under path (decodedKey (now (input .entry)) key)) (decodedLeaf (now (input .entry)) leaf)))
+        (λ env path. perform env (add (under path (decodedKey (now (input .entry)) key)) (decodedLeaf (now (input .entry)) leaf)))
         (λ path. path ++ (decodedKey (now (input .entry)) key ∷ [])) r ⌝ }
 {
     let segment = key_segment(key);
@@ -134,7 +134,7 @@ pub(crate) fn push(
 ) -> Performed
     requires { ⌜ Able (now input) (now words) (now text) here × LeafBounds (now input) leaf ⌝ }
     ensures { λ r. ⌜ Does (now (words .entry)) (now (text .entry)) (now (words .exit)) (now (text .exit)) here
-        (λ lent path. perform lent (add (last path) (decodedLeaf (now (input .entry)) leaf))) (λ path. path) r ⌝ }
+        (λ env path. perform env (add (last path) (decodedLeaf (now (input .entry)) leaf))) (λ path. path) r ⌝ }
 {
     let value = leaf_segment(leaf);
     let kind = value.kind;
@@ -153,7 +153,7 @@ pub(crate) fn append_value(
 ) -> Performed
     requires { ⌜ Able (now input) (now words) (now text) here × (here .node ≡ 0) × LeafBounds (now input) leaf ⌝ }
     ensures { λ r. ⌜ Does (now (words .entry)) (now (text .entry)) (now (words .exit)) (now (text .exit)) here
-        (λ lent path. perform lent (add root (decodedLeaf (now (input .entry)) leaf))) (λ path. []) r ⌝ }
+        (λ env path. perform env (add root (decodedLeaf (now (input .entry)) leaf))) (λ path. []) r ⌝ }
 {
     let value = leaf_segment(leaf);
     let kind = value.kind;
