@@ -7,7 +7,7 @@ use native.Mathlib.Omega.{arith}
 use lib.ListN.{length, length-append}
 use Rattle.key.specs.Keys.{Key}
 use Rattle.key.specs.KeyOrder.{compareKeys}
-use Rattle.reading.specs.Values.{unkeyed, Row, rowKey, bare, Value, uninitialized, map, sequence, Forest, none, child, Node, at}
+use Rattle.reading.specs.Values.{unkeyed, Row, rowKey, bare, Value, uninitialized, Forest, none, child, Node, at}
 use Rattle.reading.specs.Leaves.{Leaf}
 use Rattle.reading.specs.Charging.{Lent, Environment, Used, more, FitsIn, NodeRule}
 use Rattle.reading.specs.Adding.{mapAt, sequenceAt, becomeMap, becomeSequence, keyText, leafText, rowAt, valueAt, snoc, appendValue, insertUnique, enterKey, pushLast, atPath}

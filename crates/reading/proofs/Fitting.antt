@@ -11,7 +11,7 @@ use Rattle.reading.specs.Values.{uninitialized, Node}
 use Rattle.reading.specs.Charging.{Lent, Environment, Used, FitsIn, rootOnly, Made, made, refused}
 use Rattle.reading.specs.Taking.{Token, token, tokens}
 use Rattle.reading.specs.Scanning.{Mode, rootKey, finish, step}
-use Rattle.reading.specs.Running.{perform, Answer, accepted, refusedAt, resume, run}
+use Rattle.reading.specs.Running.{Answer, accepted, refusedAt, resume, run}
 use Rattle.reading.specs.Reading.{alone, lending, parsed}
 use Rattle.reading.specs.Space.{NotForSpace}
 use Rattle.reading.specs.Fitting.{ample, Fitting}

@@ -49,7 +49,7 @@ spared-choose Ordering·lt p q r = p
 spared-choose Ordering·eq p q r = q
 spared-choose Ordering·gt p q r = r
 
--- A charge by its tests, where so much is lent and where more is.
+-- A charge, by what its two tests say.
 abbrev charges : {A : Type 0} (few little : Bool) → Made A → Made A
 charges few little r = cond few (refused TooFewRecords) (cond little (refused TooLittleText) r)
 

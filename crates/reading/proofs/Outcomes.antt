@@ -21,7 +21,7 @@ use Rattle.reading.specs.Taking.{tokens}
 use Rattle.reading.specs.Scanning.{rootKey}
 use Rattle.reading.specs.Running.{Answer, accepted, refusedAt, Accepts, accepts}
 use Rattle.reading.specs.Records.{rooted, layout}
-use Rattle.reading.specs.Reading.{Outcome, lentBy, alone, lending, parsed, outcome, unread, Read, passed, met, readOf, read, outcomeOf, reading}
+use Rattle.reading.specs.Reading.{Outcome, lentBy, alone, lending, parsed, outcome, unread, Read, met, readOf, read, outcomeOf, reading}
 use Rattle.reading.specs.Trees.{plain}
 use Rattle.reading.specs.Buffers.{nodeIn, treeIn}
 use Rattle.reading.specs.Answers.{Answered, Answers}

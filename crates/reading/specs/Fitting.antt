@@ -1,5 +1,5 @@
--- Meaning apart from space: an input has one tree or one refusal, and what is lent decides only whether that tree fits. Proved in
--- proofs/Fitting as `fitting`.
+-- Meaning apart from space: an input has one tree or one refusal, and what is lent decides only whether that tree fits.
+-- Proved in proofs/Fitting as `fitting`.
 use Prim.Native.Nat.{ℕ, _+_, _≤_}
 use mathlib.Core.Path.{_≡_}
 use mathlib.Core.List.{List}
@@ -25,9 +25,12 @@ freely config input = parsed config input (ample input)
 pub record Apart (config : Config) (input : List ℕ) (lent : Lent) : Type 0 where
   -- what is accepted is accepted with unlimited space, the same tree
   pub same :
-      (tree : Node) (used : Used) → parsed config input lent ≡ accepted tree used → freely config input ≡ accepted tree used
+      (tree : Node) (used : Used)
+      → parsed config input lent ≡ accepted tree used → freely config input ≡ accepted tree used
   -- what is accepted fits, where at least the root's record is lent (refusal 3 is passed)
-  pub fits : (tree : Node) (used : Used) → 1 ≤ lent .records → parsed config input lent ≡ accepted tree used → FitsIn lent used
+  pub fits :
+      (tree : Node) (used : Used)
+      → 1 ≤ lent .records → parsed config input lent ≡ accepted tree used → FitsIn lent used
   -- what is accepted with unlimited space, and fits, is accepted
   pub suffices :
       (tree : Node) (used : Used)
@@ -37,5 +40,6 @@ pub record Apart (config : Config) (input : List ℕ) (lent : Lent) : Type 0 whe
       (x : Refusal) (place : ℕ)
       → NotForSpace (code x) → parsed config input lent ≡ refusedAt x place → freely config input ≡ refusedAt x place
 
+-- Of every input, whatever is lent.
 abbrev pub Fitting : Type 0
 Fitting = (config : Config) (input : List ℕ) (lent : Lent) → Apart config input lent
