@@ -3,18 +3,19 @@
 use Prim.Native.Nat.{ℕ, _+_, Ordering·eq, Ordering·gt}
 use mathlib.Core.Path.{_≡_, refl, _∙_}
 use mathlib.Core.List.{List, _++_}
-use lib.ListN.{length}
+use native.Mathlib.Omega.{arith}
+use lib.ListN.{length, length-append}
 use Rattle.key.specs.Keys.{Key}
 use Rattle.key.specs.KeyOrder.{compareKeys}
-use Rattle.reading.specs.Values.{unkeyed, Row, rowKey, bare, Value, uninitialized, map, sequence, Forest, none, child, Node, at}
+use Rattle.reading.specs.Values.{unkeyed, Row, rowKey, bare, Value, uninitialized, Forest, none, child, Node, at}
 use Rattle.reading.specs.Leaves.{Leaf}
-use Rattle.reading.specs.Charging.{Environment, Used, more, NodeRule}
+use Rattle.reading.specs.Charging.{Lent, Environment, Used, more, FitsIn, NodeRule}
 use Rattle.reading.specs.Adding.{mapAt, sequenceAt, becomeMap, becomeSequence, keyText, leafText, rowAt, valueAt, snoc, appendValue, insertUnique, enterKey, pushLast, atPath}
 use Rattle.reading.specs.Scanning.{root, under, last, Command, skip, refuse, enter, needMap, needSequence, add}
 use Rattle.reading.specs.Running.{perform}
 use Rattle.reading.specs.Shape.{SingleValue}
 use Rattle.reading.specs.Covering.{gives, refuses}
-use Rattle.reading.proofs.Results.{Each, gives-over, gives-weaken, Within, each-charge}
+use Rattle.reading.proofs.Results.{Each, gives-over, gives-weaken, each-charge}
 use Rattle.reading.proofs.Rules.{Fits, OfValue, OfChildren, Obeys, Passes, Adding, Entering, at-path, append-obeys, insert-obeys, push-obeys, enter-obeys, map-obeys, sequence-obeys}
 
 abbrev pub Change : Type 0 → Type 1
@@ -46,17 +47,17 @@ pub record Changes (env : Environment) (C : Change Node) (D : Key → Change For
   pub same : (n : Node) (u : Used) → C n u n u
   pub newMap : (l : Row) (u : Used) → C (at l uninitialized) u (mapAt l none) u
   pub newSequence : (l : Row) (u : Used) → C (at l uninitialized) u (sequenceAt l none) u
-  pub entered : (k : Key) (cs : Forest) (u : Used) → Fits k cs → Within (env .lent) (more u 1 (keyText k))
+  pub entered : (k : Key) (cs : Forest) (u : Used) → Fits k cs → FitsIn (env .lent) (more u 1 (keyText k))
       → D k cs u (newEntry k cs u) (more u 1 (keyText k))
-  pub inserted : (k : Key) (x : Leaf) (cs : Forest) (u : Used) → Fits k cs → Within (env .lent) (more u 1 (keyText k ++ leafText x))
+  pub inserted : (k : Key) (x : Leaf) (cs : Forest) (u : Used) → Fits k cs → FitsIn (env .lent) (more u 1 (keyText k ++ leafText x))
       → D k cs u (newChild k x cs u) (more u 1 (keyText k ++ leafText x))
-  pub becomes : (x : Leaf) (l : Row) (u : Used) → Within (env .lent) (more u 0 (leafText x))
+  pub becomes : (x : Leaf) (l : Row) (u : Used) → FitsIn (env .lent) (more u 0 (leafText x))
       → C (at l uninitialized) u (at l (valueAt x (length (u .text)))) (more u 0 (leafText x))
-  pub paired : (x : Leaf) (l : Row) (v : Value) (u : Used) → SingleValue v → Within (env .lent) (more u 2 (leafText x))
+  pub paired : (x : Leaf) (l : Row) (v : Value) (u : Used) → SingleValue v → FitsIn (env .lent) (more u 2 (leafText x))
       → C (at l v) u (sequenceAt l (two x v u)) (more u 2 (leafText x))
-  pub pushed : (x : Leaf) (l : Row) (cs : Forest) (u : Used) → Within (env .lent) (more u 1 (leafText x))
+  pub pushed : (x : Leaf) (l : Row) (cs : Forest) (u : Used) → FitsIn (env .lent) (more u 1 (leafText x))
       → C (sequenceAt l cs) u (sequenceAt l (snoc cs (element x u))) (more u 1 (leafText x))
-  pub pushedFirst : (x : Leaf) (l : Row) (u : Used) → Within (env .lent) (more u 1 (leafText x))
+  pub pushedFirst : (x : Leaf) (l : Row) (u : Used) → FitsIn (env .lent) (more u 1 (leafText x))
       → C (at l uninitialized) u (sequenceAt l (element x u)) (more u 1 (leafText x))
 
 -- What a rule makes of a record has its key, and C.
@@ -129,28 +130,41 @@ module _ {env : Environment} {C : Change Node} {D : Key → Change Forest} (c : 
   pub perform-changes : (command : Command) (n : Node) (u : Used) → Each (C n u) (perform env command n u)
   perform-changes command n u = gives-weaken (λ n′ u′ h. h .change) (perform-kept command n u)
 
--- No command uses more than what is lent.
-within : (env : Environment) → Changes env (λ n u n′ u′. Within (env .lent) u → Within (env .lent) u′) (λ k cs u ds u′. Within (env .lent) u → Within (env .lent) u′)
-within env =
-    record {
-      here = λ k m l v cs u w u′ e f h. h;
-      later = λ k m l v cs u ds u′ e h. h;
-      inMap = λ k l cs u ds u′ h. h;
-      toMap = λ k l u ds u′ h. h;
-      same = λ n u h. h;
-      newMap = λ l u h. h;
-      newSequence = λ l u h. h;
-      entered = λ k cs u e f h. f;
-      inserted = λ k x cs u e f h. f;
-      becomes = λ x l u f h. f;
-      paired = λ x l v u s f h. f;
-      pushed = λ x l cs u f h. f;
-      pushedFirst = λ x l u f h. f;
-    }
+-- A relation between what is used before and after, which each charge that fits keeps to.
+module _ (env : Environment) (R : Used → Used → Type 0) (same : (u : Used) → R u u)
+    (charged : (u : Used) (k : ℕ) (x : List ℕ) → FitsIn (env .lent) (more u k x) → R u (more u k x)) where
+  uses : Changes env (λ n u n′ u′. R u u′) (λ k cs u ds u′. R u u′)
+  uses =
+      record {
+        here = λ k m l v cs u w u′ e f h. h;
+        later = λ k m l v cs u ds u′ e h. h;
+        inMap = λ k l cs u ds u′ h. h;
+        toMap = λ k l u ds u′ h. h;
+        same = λ n u. same u;
+        newMap = λ l u. same u;
+        newSequence = λ l u. same u;
+        entered = λ k cs u e f. charged u 1 (keyText k) f;
+        inserted = λ k x cs u e f. charged u 1 (keyText k ++ leafText x) f;
+        becomes = λ x l u f. charged u 0 (leafText x) f;
+        paired = λ x l v u s f. charged u 2 (leafText x) f;
+        pushed = λ x l cs u f. charged u 1 (leafText x) f;
+        pushedFirst = λ x l u f. charged u 1 (leafText x) f;
+      }
 
-pub perform-within : (env : Environment) (c : Command) (n : Node) (u : Used) → Within (env .lent) u → Each (λ n′ u′. Within (env .lent) u′) (perform env c n u)
-perform-within env c n u h = gives-weaken (λ n′ u′ f. f h) (perform-changes (within env) c n u)
+  pub perform-uses : (c : Command) (n : Node) (u : Used) → Each (λ n′ u′. R u u′) (perform env c n u)
+  perform-uses = perform-changes uses
+
+-- No command uses more than what is lent.
+pub perform-within : (env : Environment) (c : Command) (n : Node) (u : Used) → FitsIn (env .lent) u → Each (λ n′ u′. FitsIn (env .lent) u′) (perform env c n u)
+perform-within env c n u h = gives-weaken (λ n′ u′ f. f h) (perform-uses env (λ w w′. FitsIn (env .lent) w → FitsIn (env .lent) w′) (λ w g. g) (λ w k x f g. f) c n u)
+
+-- No command gives back what is used: what doesn't fit in some lent space doesn't after it.
+pub perform-unfit : (env : Environment) (lent : Lent) (c : Command) (n : Node) (u : Used) → (FitsIn lent u → ⊥) → Each (λ n′ u′. FitsIn lent u′ → ⊥) (perform env c n u)
+perform-unfit env lent c n u h =
+    gives-weaken (λ n′ u′ f g. h (f g))
+    (perform-uses env (λ w w′. FitsIn lent w′ → FitsIn lent w) (λ w g. g)
+    (λ w k x f g. record { records = omega (arith, g .records); bytes = omega (arith, g .bytes, length-append (w .text) x) }) c n u)
 
 -- No command gives the root a key.
 pub perform-bare : (env : Environment) (c : Command) (n : Node) (u : Used) → n .row .label ≡ unkeyed → Each (λ n′ u′. n′ .row .label ≡ unkeyed) (perform env c n u)
-perform-bare env c n u h = gives-weaken (λ n′ u′ f. f .label ∙ h) (perform-kept (within env) c n u)
+perform-bare env c n u h = gives-weaken (λ n′ u′ f. f .label ∙ h) (perform-kept (uses env (λ w w′. Unit) (λ w. tt) (λ w k x f. tt)) c n u)

@@ -2,12 +2,10 @@
 -- grown keeps what it grew from.
 use Prim.Native.Nat.{ℕ}
 use mathlib.Core.Path.{_≡_, refl, ap, _∙_}
-use mathlib.Core.List.{List}
-use lib.ListN.{length}
 use Rattle.key.specs.Keys.{Key}
-use Rattle.reading.specs.Values.{labelKey, Row, bare, Value, uninitialized, null, noValue, string, map, sequence, Forest, none, child, Node}
+use Rattle.reading.specs.Values.{labelKey, Row, Value, uninitialized, null, noValue, string, map, sequence, Forest, none, child, Node}
 use Rattle.reading.specs.Charging.{Environment, Used}
-use Rattle.reading.specs.Adding.{valueAt, snoc}
+use Rattle.reading.specs.Adding.{snoc}
 use Rattle.reading.specs.Scanning.{Command}
 use Rattle.reading.specs.Running.{perform}
 use Rattle.reading.specs.Trees.{Tree, Entries, entry, plain, entries, elements}

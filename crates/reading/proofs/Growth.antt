@@ -59,11 +59,11 @@ ends-grows : {v : Node} {u : Used} {end : ℕ} {a : Answer} → Ends (λ w u′.
 ends-grows (accepts g) = both g
 ends-grows (refusesAt h) = later h
 
-resume-grows : (p end : ℕ) (K L : Node → Used → Answer) → ((w : Node) (u : Used) → Grows end (K w u) (L w u))
-    → {r s : Made Node} → Spared r s → Grows end (resume p r K) (resume p s L)
+resume-grows : {lent : Lent} (p end : ℕ) (K L : Node → Used → Answer) → ((w : Node) (u : Used) → Grows end (K w u) (L w u))
+    → {r s : Made Node} → Spared lent r s → Grows end (resume p r K) (resume p s L)
 resume-grows p end K L h (alike {r = made w u}) = h w u
 resume-grows p end K L h (alike {r = refused x}) = likewise
-resume-grows p end K L h (scarce x) = excused (forSpace x)
+resume-grows p end K L h (scarce x f) = excused (forSpace x)
 
 module _ (config : Config) (env large : Environment) (big : More (env .lent) (large .lent)) where
   -- What the end does here, an `&` and more input do there.

@@ -16,12 +16,12 @@ use Rattle.refusals.proofs.Codes.{code-some}
 use Rattle.config.specs.declared.Config.{Config}
 use Rattle.config.specs.Limits.{maxDepth, maxLen}
 use Rattle.reading.specs.Values.{unkeyed, uninitialized, Node}
-use Rattle.reading.specs.Charging.{Lent, Used, rootOnly}
+use Rattle.reading.specs.Charging.{Lent, Used, FitsIn, rootOnly}
 use Rattle.reading.specs.Taking.{tokens}
 use Rattle.reading.specs.Scanning.{rootKey}
 use Rattle.reading.specs.Running.{Answer, accepted, refusedAt, Accepts, accepts}
 use Rattle.reading.specs.Records.{rooted, layout}
-use Rattle.reading.specs.Reading.{Outcome, lentBy, alone, lending, parsed, outcome, unread, Read, passed, met, readOf, read, outcomeOf, reading}
+use Rattle.reading.specs.Reading.{Outcome, lentBy, alone, lending, parsed, outcome, unread, Read, met, readOf, read, outcomeOf, reading}
 use Rattle.reading.specs.Trees.{plain}
 use Rattle.reading.specs.Buffers.{nodeIn, treeIn}
 use Rattle.reading.specs.Answers.{Answered, Answers}
@@ -29,7 +29,7 @@ use Rattle.reading.specs.TreeHeld.{TreeHeld}
 use Rattle.reading.specs.Counts.{Counted, Counts}
 use Rattle.reading.specs.Numbers.{NoEmptyString}
 use Rattle.reading.specs.Shape.{Shaped, DecidedBelow, WellShaped, Shape}
-use Rattle.reading.proofs.Results.{by-test, Within}
+use Rattle.reading.proofs.Results.{by-test}
 use Rattle.reading.proofs.Runs.{Ends, refusesAt, run-keeps}
 use Rattle.reading.proofs.Shaped.{perform-shaped}
 use Rattle.reading.proofs.Rising.{Risen, perform-risen}
@@ -76,13 +76,13 @@ pub record Sound (lent : Lent) (n : Node) (u : Used) : Type 0 where
   pub bare : n .row .label ≡ unkeyed
   pub shaped : Shaped (n .value)
   pub risen : Risen n u
-  pub within : Within lent u
+  pub within : FitsIn lent u
   pub decided : DecidedBelow (n .value)
   pub no-empty : NoEmptyString (n .value)
 
 ends-sound : {lent : Lent} {a : Answer} → Ends Held (λ x p. Unit) a → Ends (λ n u. n .row .label ≡ unkeyed) (λ x p. Unit) a
     → Ends (λ n u. Shaped (n .value)) (λ x p. Unit) a → Ends Risen (λ x p. Unit) a
-    → Ends (λ n u. Within lent u) (λ x p. Unit) a → Ends (λ n u. NoEmptyString (n .value)) (λ x p. Unit) a
+    → Ends (λ n u. FitsIn lent u) (λ x p. Unit) a → Ends (λ n u. NoEmptyString (n .value)) (λ x p. Unit) a
     → Ends (λ n u. DecidedBelow (n .value)) (λ x p. Numbered x) a → Ends (Sound lent) (λ x p. Numbered x) a
 ends-sound (Ends.accepts h) (Ends.accepts b) (Ends.accepts s) (Ends.accepts r) (Ends.accepts w) (Ends.accepts y) (Ends.accepts d) =
     Ends.accepts (record { held = h; bare = b; shaped = s; risen = r; within = w; decided = d; no-empty = y })
@@ -107,7 +107,7 @@ parsed-sound config (b ∷ s) lent h =
     (run-keeps config env (λ n u. n .row .label ≡ unkeyed) (perform-bare env) ts 0 (rootKey []) start rootOnly refl)
     (run-keeps config env (λ n u. Shaped (n .value)) (perform-shaped env) ts 0 (rootKey []) start rootOnly tt)
     (run-keeps config env Risen (perform-risen env) ts 0 (rootKey []) start rootOnly (record { some = omega arith; rising = tt }))
-    (run-keeps config env (λ n u. Within lent u) (perform-within env) ts 0 (rootKey []) start rootOnly (record { records = h; bytes = omega arith }))
+    (run-keeps config env (λ n u. FitsIn lent u) (perform-within env) ts 0 (rootKey []) start rootOnly (record { records = h; bytes = omega arith }))
     (run-no-empty config env ts 0 (rootKey []) start rootOnly tt)
     (run-reach config env ts 0 (rootKey []) start rootOnly tt)
 

@@ -6,7 +6,7 @@ use native.Mathlib.Omega.{arith}
 use lib.ListN.{length}
 use Rattle.config.specs.declared.Config.{Config}
 use Rattle.reading.specs.Values.{uninitialized, Node}
-use Rattle.reading.specs.Charging.{Lent, Used, rootOnly, Made, made, refused}
+use Rattle.reading.specs.Charging.{Lent, rootOnly, Made, made, refused}
 use Rattle.reading.specs.Taking.{tokens}
 use Rattle.reading.specs.Scanning.{rootKey, step, finish}
 use Rattle.reading.specs.Running.{perform, Answer}

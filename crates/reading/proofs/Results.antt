@@ -1,8 +1,8 @@
 -- Facts of what a rule makes, or of its refusal, by the shape of the rules: no equations.
-use Prim.Native.Nat.{ℕ, _+_, _≤_, _<_, Ordering, Ordering·lt, Ordering·eq, Ordering·gt}
+use Prim.Native.Nat.{ℕ, _+_, _<_, Ordering, Ordering·lt, Ordering·eq, Ordering·gt}
 use mathlib.Core.Path.{_≡_, refl}
 use mathlib.Core.Bool.{Bool, true, false, cond}
-use mathlib.Core.List.{List, _++_}
+use mathlib.Core.List.{List}
 use native.Mathlib.Omega.{arith}
 use borrow.Author.Tests.{ltb-true, ltb-false}
 use lib.Dec.{ltb}
@@ -10,7 +10,7 @@ use lib.ListN.{length, length-append}
 use Rattle.refusals.specs.declared.Refusal.{Refusal}
 use Rattle.refusals.specs.declared.Refusal.the-variants.{TooFewRecords, TooLittleText}
 use Rattle.key.specs.KeyOrder.{choose}
-use Rattle.reading.specs.Charging.{Lent, Environment, Used, more, Made, over, charge}
+use Rattle.reading.specs.Charging.{Environment, Used, more, FitsIn, Made, over, charge}
 use Rattle.reading.specs.Covering.{Gives, gives, refuses, Whatever}
 
 -- What is made, with its counts, has P.
@@ -47,15 +47,10 @@ pub by-test : {A : Type 0} (Q : A → Type 0) (b : Bool) {x y : A} → (b ≡ tr
 by-test Q true p q = p refl
 by-test Q false p q = q refl
 
--- What is used is within what is lent.
-pub record Within (lent : Lent) (u : Used) : Type 0 where
-  pub records : u .records ≤ lent .records
-  pub bytes : length (u .text) ≤ lent .bytes
-
 -- A charge: what each of its three answers needs.
 pub gives-charge : {A : Type 0} {P : A → Used → Type 0} {R : Refusal → Type 0} (env : Environment) (k : ℕ) (x : List ℕ) (a : A) (u : Used)
     → (env .lent .records < u .records + k → R TooFewRecords) → (env .lent .bytes < length (u .text) + length x → R TooLittleText)
-    → (Within (env .lent) (more u k x) → P a (more u k x))
+    → (FitsIn (env .lent) (more u k x) → P a (more u k x))
     → Gives P R (charge env k x a u)
 gives-charge {P} {R} env k x a u few little fits =
     by-test (Gives P R) (ltb (env .lent .records) (u .records + k)) (λ e. refuses (few (ltb-true (env .lent .records) (u .records + k) e)))
@@ -70,5 +65,5 @@ gives-charge {P} {R} env k x a u few little fits =
     }))))
 
 pub each-charge : {A : Type 0} {P : A → Used → Type 0} (env : Environment) (k : ℕ) (x : List ℕ) (a : A) (u : Used)
-    → (Within (env .lent) (more u k x) → P a (more u k x)) → Each P (charge env k x a u)
+    → (FitsIn (env .lent) (more u k x) → P a (more u k x)) → Each P (charge env k x a u)
 each-charge env k x a u fits = gives-charge env k x a u (λ h. tt) (λ h. tt) fits

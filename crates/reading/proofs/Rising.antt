@@ -1,6 +1,5 @@
 -- Every command numbers what it makes above all that is there.
 use Prim.Native.Nat.{ℕ, _+_, _≤_, _<_}
-use mathlib.Core.List.{List}
 use native.Mathlib.Omega.{arith}
 use lib.ListN.{length}
 use Rattle.reading.specs.Values.{bare, Value, uninitialized, null, noValue, string, map, sequence, Forest, none, child, Node}

@@ -4,11 +4,11 @@ use mathlib.Core.Path.{_≡_, ap, _∙_}
 use mathlib.Core.List.{List}
 use lib.ListN.{length}
 use Rattle.key.specs.Keys.{Key}
-use Rattle.reading.specs.Values.{Row, bare, rowKey, Value, uninitialized, Forest, none, child, Node, at}
+use Rattle.reading.specs.Values.{Row, rowKey, Value, uninitialized, Forest, none, child, Node}
 use Rattle.reading.specs.Leaves.{Leaf}
 use Rattle.key.specs.KeyOrder.{compareKeys}
 use Rattle.reading.specs.Charging.{Environment, Used}
-use Rattle.reading.specs.Adding.{keyText, labelAt, rowAt, valueAt, snoc, appendValue, atPath}
+use Rattle.reading.specs.Adding.{keyText, rowAt, valueAt, snoc, appendValue, atPath}
 use Rattle.reading.specs.Scanning.{Command}
 use Rattle.reading.specs.Running.{perform}
 use Rattle.reading.specs.Shape.{SingleValue, isNull, isNoValue, isString, Before, ShapedSequence, Shaped, ShapedMap}

@@ -23,7 +23,7 @@ use Rattle.reading.specs.Scanning.{Target, root, under, last, Command, s
 use Rattle.reading.specs.Running.{perform, Answer, run}
 use Rattle.reading.specs.Reading.{lentBy, alone, lending, parsed, outcome}
 use Rattle.reading.specs.Shape.{SingleValue, isNull, isNoValue, isString}
-use Rattle.reading.specs.Space.{Enough, NotForSpace, Space}
+use Rattle.reading.specs.Space.{NotForSpace, Space}
 use Rattle.reading.specs.Covering.{Gives, gives, refuses, weight, targetText, needs, pending, Covered}
 use Rattle.reading.proofs.Results.{gives-over, gives-map, gives-charge}
 use Rattle.reading.proofs.Rules.{Unfit, onMap, onSingle, onSequence, onString, onNull, Adding, Entering, at-path, append-obeys, insert-obeys, push-obeys, enter-obeys, map-obeys, sequence-obeys}

@@ -1,4 +1,5 @@
--- Document 01, 'The root' (needing a map), 'Inside a bracket' (`[]`) and 'Adding (`append_value`)': the rules that change the tree.
+-- Document 01, 'The root' (needing a map), 'Inside a bracket' (`[]`) and 'Adding (`append_value`)': the rules that
+-- change the tree.
 use Prim.Native.Nat.{ℕ, _+_}
 use mathlib.Core.List.{List, [], _∷_, _++_}
 use lib.ListN.{length}
@@ -11,8 +12,8 @@ use Rattle.reading.specs.Values.{string, map, sequence, Forest, none, ch
 use Rattle.reading.specs.Leaves.{Leaf}
 use Rattle.reading.specs.Charging.{Environment, Used, Made, made, refused, Rule, NodeRule, over, bind, charge}
 
--- "Needing a map: Uninitialized becomes Map, a Map serves, the rest refuse (8, 9, 10)." `expect_map` of the source; here the children of
--- the map.
+-- "Needing a map: Uninitialized becomes Map, a Map serves, the rest refuse (8, 9, 10)." `expect_map` of the source;
+-- here the children of the map.
 abbrev pub expectMap : Value → Used → Made Forest
 expectMap uninitialized used = made none used
 expectMap null used = refused MapOnNull
@@ -70,20 +71,21 @@ valueAt Leaf.null o = null
 valueAt Leaf.noValue o = noValue
 valueAt (Leaf.string x) o = string o x
 
--- "A new key takes the value": a new child in front of the later siblings, its text "key before value". "one new record", "text for a
--- new key plus the value"
+-- "A new key takes the value": a new child in front of the later siblings, its text "key before value". "one new
+-- record", "text for a new key plus the value"
 abbrev pub insertNew : Environment → Key → Leaf → Rule Forest
 insertNew env key leaf later used =
+    let offset = length (used .text) in
     charge env 1 (keyText key ++ leafText leaf)
-    (child (used .records) (rowAt key (length (used .text))) (valueAt leaf (length (used .text) + length (keyText key))) later) used
+    (child (used .records) (rowAt key offset) (valueAt leaf (offset + length (keyText key))) later) used
 
 -- A new key that is entered: "Uninitialized if new".
 abbrev pub enterNew : Environment → Key → Rule Forest
 enterNew env key later used =
     charge env 1 (keyText key) (child (used .records) (rowAt key (length (used .text))) uninitialized later) used
 
--- "a single value becomes a Sequence of two, keeping its record number and key, the old value moving to a new record and the new one
--- following"; "two for the last rule". The number stands in the forest above, so it is kept.
+-- "a single value becomes a Sequence of two, keeping its record number and key, the old value moving to a new record
+-- and the new one following"; "two for the last rule". The number stands in the forest above, so it is kept.
 abbrev pub sequenceOfTwo : Environment → Leaf → NodeRule
 sequenceOfTwo env leaf row value used =
     let new = child (used .records + 1) bare (valueAt leaf (length (used .text))) none in
@@ -103,24 +105,26 @@ push env leaf row children used =
 -- `append_value` of the source. "Uninitialized becomes it" and takes no new record.
 abbrev mutual
   pub appendValue : Environment → Leaf → NodeRule
-  appendValue env leaf row uninitialized used = charge env 0 (leafText leaf) (at row (valueAt leaf (length (used .text)))) used
+  appendValue env leaf row uninitialized used =
+      charge env 0 (leafText leaf) (at row (valueAt leaf (length (used .text)))) used
   appendValue env leaf row null used = sequenceOfTwo env leaf row null used
   appendValue env leaf row noValue used = sequenceOfTwo env leaf row noValue used
   appendValue env leaf row (string o x) used = sequenceOfTwo env leaf row (string o x) used
   appendValue env leaf row (map children) used = over (mapAt row) (appendEmptyKey env leaf children used)
   appendValue env leaf row (sequence children) used = push env leaf row children used
 
-  -- "a Map adds it under its empty key, calling the same rule again". This is `atEntry (str [])` below, written out for the recursion
-  -- (proofs/Rules: append-at-entry).
+  -- "a Map adds it under its empty key, calling the same rule again". This is `atEntry (str [])` below, written out for
+  -- the recursion (proofs/Rules: append-at-entry).
   pub appendEmptyKey : Environment → Leaf → Rule Forest
   appendEmptyKey env leaf none used = insertNew env (str []) leaf none used
   appendEmptyKey env leaf (child number row value later) used =
       let here = over (λ n. child number (n .row) (n .value) later) (appendValue env leaf row value used) in
       let further = over (child number row value) (appendEmptyKey env leaf later used) in
-      choose (compareKeys (str []) (rowKey row)) (insertNew env (str []) leaf (child number row value later) used) here further
+      choose (compareKeys (str []) (rowKey row))
+      (insertNew env (str []) leaf (child number row value later) used) here further
 
--- The child under a key (`map.entry` of the source): `occupied` changes it where it stands; if there is none, `vacant` is handed the
--- siblings that come after it.
+-- The child under a key (`map.entry` of the source): `occupied` changes it where it stands; if there is none, `vacant`
+-- is handed the siblings that come after it.
 abbrev pub atEntry : Key → NodeRule → Rule Forest → Rule Forest
 atEntry key occupied vacant none used = vacant none used
 atEntry key occupied vacant (child number row value later) used =
@@ -161,4 +165,5 @@ atPath (key ∷ keys) rule row null used = refused NoSuchField
 atPath (key ∷ keys) rule row noValue used = refused NoSuchField
 atPath (key ∷ keys) rule row (string o x) used = refused NoSuchField
 atPath (key ∷ keys) rule row (sequence children) used = refused NoSuchField
-atPath (key ∷ keys) rule row (map children) used = over (mapAt row) (atEntry key (atPath keys rule) noPath children used)
+atPath (key ∷ keys) rule row (map children) used =
+    over (mapAt row) (atEntry key (atPath keys rule) noPath children used)

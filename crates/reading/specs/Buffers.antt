@@ -1,7 +1,7 @@
--- The tree that words and text hold. Document 01, 'Settings and the lent buffers' (the words of a record) and 'A ticket that grows': a
--- ticket's tree is what "its accepted reading leaves in records and text".
--- Of buffers that a reading leaves this is the very tree that it made, record numbers and offsets included (specs/TreeHeld): none of them
--- has another kind, or a longer way down than the steps allow.
+-- The tree that words and text hold. Document 01, 'Settings and the lent buffers' (the words of a record) and 'A ticket
+-- that grows': a ticket's tree is what "its accepted reading leaves in records and text".
+-- Of buffers that a reading leaves this is the very tree that it made, record numbers and offsets included
+-- (specs/TreeHeld): none of them has another kind, or a longer way down than the steps allow.
 use Prim.Native.Nat.{ℕ, zero, suc}
 use mathlib.Core.Bool.{Bool, false, cond}
 use mathlib.Core.List.{List}
@@ -10,16 +10,16 @@ use lib.ListN.{length}
 use Rattle.row.specs.Row.{kindWord, keyKindWord, keyWord, keyLengthWord, textWord, textLengthWord, childWord, nextWord}
 use Rattle.row.specs.Row.{mapKind, sequenceKind, stringKind, nullKind, noValueKind, intKeyKind}
 use Rattle.row.specs.Words.{word, textPart}
-use Rattle.reading.specs.Values.{Label, unkeyed, intKey, stringKey, Row, Value, uninitialized, null, noValue, string}
-use Rattle.reading.specs.Values.{map, sequence, Forest, none, child, Node, at}
+use Rattle.reading.specs.Values.{Label, unkeyed, intKey, stringKey, Row, Value, uninitialized, null, noValue}
+use Rattle.reading.specs.Values.{string, map, sequence, Forest, none, child, Node, at}
 use Rattle.reading.specs.Trees.{Tree, plain}
 
 -- The key of record i: a Map's child has one, an Int or a String.
 abbrev pub labelIn : Bool → List ℕ → List ℕ → ℕ → Label
 labelIn keyed words text i =
-    let bytes = textPart text (word words i keyWord) (word words i keyLengthWord) in
-    cond keyed
-    (cond (eqb (word words i keyKindWord) intKeyKind) (intKey (word words i keyWord)) (stringKey (word words i keyWord) bytes))
+    let key = word words i keyWord in
+    let bytes = textPart text key (word words i keyLengthWord) in
+    cond keyed (cond (eqb (word words i keyKindWord) intKeyKind) (intKey key) (stringKey key bytes))
     unkeyed
 
 -- The row of record i.
@@ -36,7 +36,8 @@ byKind k s children =
     (cond (eqb k noValueKind) noValue
     uninitialized))))
 
--- The value of record i; the children from record i along its siblings, keyed where they are a Map's. In at most so many steps.
+-- The value of record i; the children from record i along its siblings, keyed where they are a Map's. In at most so
+-- many steps.
 abbrev mutual
   pub valueFrom : ℕ → List ℕ → List ℕ → ℕ → Value
   valueFrom zero words text i = uninitialized
@@ -52,13 +53,14 @@ abbrev mutual
       let children = child i (rowIn keyed words text i) (valueFrom steps words text i) later in
       cond (eqb i 0) none children
 
--- From record 0, the root, which has no key.
+-- The root's value: record 0's. No way down is longer than the words.
 abbrev pub valueIn : List ℕ → List ℕ → Value
 valueIn words text = valueFrom (length words) words text 0
 
+-- The root with all below it. It has no key.
 abbrev pub nodeIn : List ℕ → List ℕ → Node
 nodeIn words text = at (rowIn false words text 0) (valueIn words text)
 
--- Without record numbers and offsets.
+-- The tree without record numbers and offsets.
 abbrev pub treeIn : List ℕ → List ℕ → Tree
 treeIn words text = plain (valueIn words text)

@@ -1,5 +1,5 @@
 -- Document 01, 'Adding': what a rule makes of a tree, and the check of space.
-use Prim.Native.Nat.{ℕ, _+_}
+use Prim.Native.Nat.{ℕ, _+_, _≤_}
 use mathlib.Core.Bool.{cond}
 use mathlib.Core.List.{List, [], _++_}
 use lib.Dec.{ltb}
@@ -25,6 +25,11 @@ pub record Used : Type 0 where
 -- So many records and these bytes of text more.
 abbrev pub more : Used → ℕ → List ℕ → Used
 more used records bytes = record { records = used .records + records; text = used .text ++ bytes }
+
+-- What is used fits in what is lent.
+pub record FitsIn (lent : Lent) (used : Used) : Type 0 where
+  pub records : used .records ≤ lent .records
+  pub bytes : length (used .text) ≤ lent .bytes
 
 -- The root alone.
 abbrev pub rootOnly : Used

@@ -1,5 +1,5 @@
--- Document 01, 'Settings and the lent buffers' ("records used and text bytes used") and 'Held by the contracts': the counts are those of the
--- tree that the buffers hold. Proved in proofs/Outcomes as `counts`.
+-- Document 01, 'Settings and the lent buffers' ("records used and text bytes used") and 'Held by the contracts': the
+-- counts are those of the tree that the buffers hold. Proved in proofs/Outcomes as `counts`.
 use Prim.Native.Nat.{ℕ, _+_}
 use mathlib.Core.Path.{_≡_}
 use mathlib.Core.List.{List}
@@ -7,7 +7,8 @@ use lib.ListN.{length}
 use Rattle.config.specs.declared.Config.{Config}
 use Rattle.key.specs.Keys.{Key, int, str}
 use Rattle.reading.specs.Reading.{Outcome, reading}
-use Rattle.reading.specs.Trees.{Tree, uninitialized, null, noValue, string, map, sequence, Entries, noEntries, entry, Elements, noElements, element}
+use Rattle.reading.specs.Trees.{Tree, uninitialized, null, noValue, string, map, sequence, Entries, noEntries}
+use Rattle.reading.specs.Trees.{entry, Elements, noElements, element}
 use Rattle.reading.specs.Buffers.{treeIn}
 
 -- The number of a tree's values, the root included.

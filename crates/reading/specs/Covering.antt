@@ -1,13 +1,15 @@
--- What a reading has used and may still need, against the bytes taken. They cover it at each place, whatever is lent (proofs/Space:
--- step-covered), so that n + 1 records and n text bytes suffice (specs/Space), and no count outgrows a u32 (the contracts of pairs).
+-- What a reading has used and may still need, against the bytes taken. They cover it at each place, whatever is lent
+-- (proofs/Space: step-covered), so that n + 1 records and n text bytes suffice (specs/Space), and no count outgrows a
+-- u32 (the contracts of pairs).
 use Prim.Native.Nat.{ℕ, _+_, _≤_}
-use mathlib.Core.List.{List, [], _∷_}
+use mathlib.Core.List.{[], _∷_}
 use lib.ListN.{length}
 use Rattle.reading.specs.Values.{Value, uninitialized, null, noValue, string, map, sequence, Node}
 use Rattle.refusals.specs.declared.Refusal.{Refusal}
 use Rattle.reading.specs.Charging.{Used, Made, made, refused}
 use Rattle.reading.specs.Adding.{keyText}
-use Rattle.reading.specs.Scanning.{Target, root, under, last, Mode, rootKey, value, bracket, keyBelowDepth, keyAtDepth, afterKey, afterBrackets}
+use Rattle.reading.specs.Scanning.{Target, root, under, last, Mode, rootKey, value, bracket, keyBelowDepth}
+use Rattle.reading.specs.Scanning.{keyAtDepth, afterKey, afterBrackets}
 
 -- P of what is made and of what is used then, R of a refusal.
 pub data Gives {A : Type 0} (P : A → Used → Type 0) (R : Refusal → Type 0) : Made A → Type 0 where

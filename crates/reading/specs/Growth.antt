@@ -1,5 +1,5 @@
--- Demand 3, document 01's 'A ticket that grows': "one claim about what two whole readings answer and leave in their buffers". Proved in
--- proofs/Growth as `growth`.
+-- Demand 3, document 01's 'A ticket that grows': "one claim about what two whole readings answer and leave in their
+-- buffers". Proved in proofs/Growth as `growth`.
 use Prim.Native.Nat.{ℕ, _+_, _≤_, _<_}
 use mathlib.Core.Path.{_≡_}
 use mathlib.Core.List.{List, [], _∷_, _++_}
@@ -11,7 +11,8 @@ use Rattle.reading.specs.Reading.{Outcome, reading}
 use Rattle.reading.specs.Buffers.{treeIn}
 use Rattle.reading.specs.Keeping.{KeepsTree}
 
--- A refusal that more input or more space can't lift: not 3, 14 or 15 (space), not 4 or 5 (the end met inside a bracket).
+-- A refusal that more input or more space can't lift: not 3, 14 or 15 (space), not 4 or 5 (the end met inside a
+-- bracket).
 pub record Lasting (number : ℕ) : Type 0 where
   pub refused : number ≡ 0 → ⊥
   pub not3 : number ≡ 3 → ⊥
@@ -23,13 +24,18 @@ pub record Lasting (number : ℕ) : Type 0 where
 -- What the reading o of n bytes says of the reading g of the same bytes, `&` and more.
 pub record Grew (n : ℕ) (o g : Outcome) : Type 0 where
   -- if both are accepted, the tree that g leaves in its buffers keeps the tree that o leaves in its own
-  pub keeps : o .answer .number ≡ 0 → g .answer .number ≡ 0 → KeepsTree (treeIn (g .words) (g .text)) (treeIn (o .words) (o .text))
+  pub keeps :
+      o .answer .number ≡ 0 → g .answer .number ≡ 0
+      → KeepsTree (treeIn (g .words) (g .text)) (treeIn (o .words) (o .text))
   -- if only o is accepted, g is refused at a place past the `&`
   pub late : o .answer .number ≡ 0 → (g .answer .number ≡ 0 → ⊥) → n + 1 < g .answer .place
   -- if o is refused lastingly, g is refused by the same number at the same place
-  pub stands : Lasting (o .answer .number) → (g .answer .number ≡ o .answer .number) × (g .answer .place ≡ o .answer .place)
+  pub stands :
+      Lasting (o .answer .number)
+      → (g .answer .number ≡ o .answer .number) × (g .answer .place ≡ o .answer .place)
 
--- A and then A, `&`, B: read at the same settings, the second with buffers at least as large, whatever the buffers held before.
+-- A and then A, `&`, B: read at the same settings, the second with buffers at least as large, whatever the buffers held
+-- before.
 abbrev pub Growth : Type 0
 Growth =
     (config : Config) (A B words words′ text text′ : List ℕ)

@@ -1,5 +1,5 @@
--- "A, `&`, B is A and then B": where the reading of A is accepted, that of A, `&`, B goes on from A's tree with B's takings, at the place
--- past the `&`. Document 01, 'The root' ("At `&` or end"). Proved in proofs/Joining as `joining`.
+-- "A, `&`, B is A and then B": where the reading of A is accepted, that of A, `&`, B goes on from A's tree with B's
+-- takings, at the place past the `&`. Document 01, 'The root' ("At `&` or end"). Proved in proofs/Joining as `joining`.
 use Prim.Native.Nat.{ℕ, _+_}
 use mathlib.Core.Path.{_≡_}
 use mathlib.Core.List.{List, [], _∷_, _++_}
@@ -15,7 +15,8 @@ use Rattle.reading.specs.Running.{accepted, run}
 -- From any place, mode, tree and use on.
 abbrev pub Joining : Type 0
 Joining =
-    (config : Config) (env : Environment) (A B : List ℕ) (place : ℕ) (mode : Mode) (tree : Node) (used : Used) (tree′ : Node) (used′ : Used)
+    (config : Config) (env : Environment) (A B : List ℕ) (place : ℕ) (mode : Mode)
+    (tree : Node) (used : Used) (tree′ : Node) (used′ : Used)
     → run config env (tokens config A) place mode tree used ≡ accepted tree′ used′
     → run config env (tokens config (A ++ (ampersand ∷ B))) place mode tree used
     ≡ run config env (tokens config B) (place + length A + 1) (rootKey []) tree′ used′

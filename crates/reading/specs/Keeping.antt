@@ -2,7 +2,8 @@
 use Prim.Native.Nat.{ℕ}
 use mathlib.Core.List.{List}
 use Rattle.key.specs.Keys.{Key}
-use Rattle.reading.specs.Trees.{Tree, uninitialized, null, noValue, string, map, sequence, Entries, noEntries, entry, Elements, noElements, element}
+use Rattle.reading.specs.Trees.{Tree, uninitialized, null, noValue, string, map, sequence, Entries, noEntries}
+use Rattle.reading.specs.Trees.{entry, Elements, noElements, element}
 
 -- "Single values are String, Null and NoValue"
 pub data Single : Tree → Type 0 where
@@ -33,7 +34,9 @@ mutual
 
   pub data KeepsEach : Entries → Entries → Type 0 where
     noKeys : {ws : Entries} → KeepsEach ws noEntries
-    alsoKey : {k : Key} {v w : Tree} {vs ws : Entries} → Has k w ws → Keeps w v → KeepsEach ws vs → KeepsEach ws (entry k v vs)
+    alsoKey :
+        {k : Key} {v w : Tree} {vs ws : Entries}
+        → Has k w ws → Keeps w v → KeepsEach ws vs → KeepsEach ws (entry k v vs)
 
 -- "A tree keeps another when its root keeps the other's root": "V is an Uninitialized root", or one of the above.
 pub data KeepsTree : Tree → Tree → Type 0 where

@@ -1,10 +1,11 @@
--- Where the texts of a tree lie. Every reading keeps to it (proofs/Held); the crates that store the tree cite it in their contracts.
--- Document 01, 'Settings and the lent buffers': a key's and a value's "text offset" and length.
+-- Where the texts of a tree lie. Every reading keeps to it (proofs/Held); the crates that store the tree cite it in
+-- their contracts. Document 01, 'Settings and the lent buffers': a key's and a value's "text offset" and length.
 use Prim.Native.Nat.{ℕ}
 use mathlib.Core.Path.{_≡_}
 use mathlib.Core.List.{List, _++_}
 use lib.ListN.{length}
-use Rattle.reading.specs.Values.{Label, unkeyed, intKey, stringKey, Value, uninitialized, null, noValue, string, map, sequence, Forest, none, child}
+use Rattle.reading.specs.Values.{Label, unkeyed, intKey, stringKey, Value, uninitialized, null, noValue, string}
+use Rattle.reading.specs.Values.{map, sequence, Forest, none, child}
 
 -- x stands in the text at an offset.
 pub record Lies (text : List ℕ) (offset : ℕ) (x : List ℕ) : Type 0 where

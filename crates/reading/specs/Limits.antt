@@ -1,5 +1,5 @@
--- Document 01, 'Refused readings': which inputs and settings the refusals before the first byte meet, whatever else is handed in. Proved in
--- proofs/Limits as `limits`.
+-- Document 01, 'Refused readings': which inputs and settings the refusals before the first byte meet, whatever else is
+-- handed in. Proved in proofs/Limits as `limits`.
 use Prim.Native.Nat.{ℕ, _≤_, _<_}
 use mathlib.Core.Path.{_≡_}
 use mathlib.Core.List.{List}
@@ -10,6 +10,7 @@ use Rattle.config.specs.Limits.{maxDepth, maxLen}
 use Rattle.row.specs.Row.{recordWidth}
 use Rattle.reading.specs.Reading.{unread, outcome, lentBy, parsed, reading}
 
+-- Each by its own bound, and what is past all three.
 pub record Limits : Type 0 where
   -- "Depth above 64", first of all
   pub deep :

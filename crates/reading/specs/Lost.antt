@@ -1,6 +1,5 @@
 -- What keeping a tree rules out (specs/Keeping), by examples: of each two inputs below, both accepted, the first one's
 -- tree doesn't keep the second one's. Proved in proofs/Lost as `lost-all`.
-use Prim.Native.Nat.{ℕ}
 use Prim.Native.String.{String}
 use mathlib.Core.Path.{_≡_}
 use mathlib.Core.List.{List, [], _∷_}

@@ -15,7 +15,7 @@ tally b = cond b 1 0
 abbrev pub below : ℕ → ℕ → ℕ
 below i n = tally (ltb i n)
 
--- How often a record number stands below a value, and among some children and all below them.
+-- How often a record number stands below a value; and among some children and all below them.
 abbrev mutual
   pub count : ℕ → Value → ℕ
   count i uninitialized = 0
@@ -33,6 +33,7 @@ abbrev mutual
 abbrev pub covers : ℕ → ℕ → List ℕ → ℕ
 covers p offset x = tally (leb offset p && ltb p (offset + length x))
 
+-- The same of a key's text.
 abbrev pub labelCovers : ℕ → Label → ℕ
 labelCovers p unkeyed = 0
 labelCovers p (intKey a) = 0
@@ -52,11 +53,12 @@ abbrev mutual
   textsOverAll p none = 0
   textsOverAll p (child number row value later) = labelCovers p (row .label) + textsOver p value + textsOverAll p later
 
--- No String that is a value is empty.
+-- A text of at least one byte.
 abbrev pub NotEmpty : List ℕ → Type 0
 NotEmpty [] = ⊥
 NotEmpty (b ∷ x) = Unit
 
+-- No String that is a value is empty.
 abbrev mutual
   pub NoEmptyString : Value → Type 0
   NoEmptyString uninitialized = Unit

@@ -3,8 +3,9 @@
 use mathlib.Core.List.{List, [], _∷_}
 use Rattle.config.specs.Defaults.{defaults}
 use Prim.Native.Nat.{_-_}
-use Rattle.reading.specs.Tests.{noKey, int, str, uninitRow, mapRow, sequenceRow, stringRow, nullRow, noValueRow}
-use Rattle.reading.specs.Tests.{holds, refuses, untouched, records, Test, test, usual, atDepth, formOn, formAtDepth, AllPass}
+use Rattle.reading.specs.Tests.{noKey, int, str, mapRow, sequenceRow, stringRow, nullRow, noValueRow}
+use Rattle.reading.specs.Tests.{holds, refuses, untouched, records, Test, test, usual, atDepth, formOn}
+use Rattle.reading.specs.Tests.{formAtDepth, AllPass}
 
 abbrev pub others : List Test
 others =

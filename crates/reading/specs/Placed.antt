@@ -1,5 +1,5 @@
--- Document 01, 'Taking a byte': a place counts the bytes taken, and past the end one more. So no reading's place lies further than one past
--- its input. Proved in proofs/Placed as `placed`.
+-- Document 01, 'Taking a byte': a place counts the bytes taken, and past the end one more. So no reading's place lies
+-- further than one past its input. Proved in proofs/Placed as `placed`.
 use Prim.Native.Nat.{ℕ, _+_, _≤_}
 use mathlib.Core.List.{List}
 use lib.ListN.{length}
@@ -13,4 +13,5 @@ pub record InPlace (input : List ℕ) (place : ℕ) : Type 0 where
   pub bounded : place ≤ maxLen + 1
 
 abbrev pub Placed : Type 0
-Placed = (config : Config) (input words text : List ℕ) → InPlace input ((reading config input words text) .answer .place)
+Placed =
+    (config : Config) (input words text : List ℕ) → InPlace input ((reading config input words text) .answer .place)

@@ -1,5 +1,6 @@
--- The reading of a whole input: what it answers, and what it leaves in the lent buffers. Document 01, 'Settings and the lent buffers', 'The
--- root' (an empty ticket) and 'Refused readings'. Public contracts equate their results with `reading`.
+-- The reading of a whole input: what it answers, and what it leaves in the lent buffers. Document 01, 'Settings and the
+-- lent buffers', 'The root' (an empty ticket) and 'Refused readings'. Public contracts equate their results with
+-- `reading`.
 use Prim.Native.Nat.{ℕ, _*_, _-_, _/_}
 use mathlib.Core.Bool.{cond}
 use mathlib.Core.List.{List, [], _∷_, _++_}
@@ -19,17 +20,18 @@ use Rattle.reading.specs.Scanning.{rootKey}
 use Rattle.reading.specs.Running.{Answer, accepted, refusedAt, run}
 use Rattle.reading.specs.Records.{layout}
 
--- "The result gives number (0 accepted), place (0 if accepted), records used and text bytes used, the last two 0 on refusal." With it, what
--- the words and the text hold then.
+-- "The result gives number (0 accepted), place (0 if accepted), records used and text bytes used, the last two 0 on
+-- refusal." With it, what the words and the text hold then.
 pub record Outcome : Type 0 where
   pub answer : Reading
   pub words : List ℕ
   pub text : List ℕ
 
--- An answer that accepts, with what is used; and one that refuses.
+-- An answer that accepts, with the records and the bytes of text that are used.
 abbrev pub accepts : ℕ → ℕ → Reading
 accepts records bytes = record { number = 0; place = 0; records = records; bytes = bytes }
 
+-- An answer that refuses, with the place.
 abbrev pub refuses : Refusal → ℕ → Reading
 refuses x place = record { number = code x; place = place; records = 0; bytes = 0 }
 
@@ -45,13 +47,15 @@ alone value = at bare value
 abbrev pub lending : Lent → Environment
 lending lent = record { lent = lent }
 
--- `parse` of the source. "Empty ticket: NoValue root. Otherwise the root is Uninitialized and pairs follow." "The place starts at 0."
+-- `parse` of the source. "Empty ticket: NoValue root. Otherwise the root is Uninitialized and pairs follow." "The place
+-- starts at 0."
 abbrev pub parsed : Config → List ℕ → Lent → Answer
 parsed config [] lent = accepted (alone noValue) rootOnly
-parsed config (b ∷ s) lent = run config (lending lent) (tokens config (b ∷ s)) 0 (rootKey []) (alone uninitialized) rootOnly
+parsed config (b ∷ s) lent =
+    run config (lending lent) (tokens config (b ∷ s)) 0 (rootKey []) (alone uninitialized) rootOnly
 
--- "Both slices are cleared once refusals 1 to 3 are passed; what an accepted reading doesn't use is zero." The arguments are the lengths of
--- the words and the text that are lent.
+-- "Both slices are cleared once refusals 1 to 3 are passed; what an accepted reading doesn't use is zero." The
+-- arguments are the lengths of the words and the text that are lent.
 abbrev pub outcome : ℕ → ℕ → Answer → Outcome
 outcome words bytes (accepted tree used) =
     record {
@@ -66,15 +70,18 @@ outcome words bytes (refusedAt x place) =
 abbrev pub unread : Refusal → List ℕ → List ℕ → Outcome
 unread x words text = record { answer = refuses x 0; words = words; text = text }
 
--- What stands once refusals 1 to 15 were passed or met: the tree that was read with the outcome, or the outcome of a refusal.
+-- What stands once refusals 1 to 15 were passed or met: the tree that was read with the outcome, or the outcome of a
+-- refusal.
 pub data Read : Type 0 where
   passed : Node → Outcome → Read
   met : Outcome → Read
 
+-- An answer with its outcome; the lengths are again those of what is lent.
 abbrev pub readOf : ℕ → ℕ → Answer → Read
 readOf words bytes (accepted tree used) = passed tree (outcome words bytes (accepted tree used))
 readOf words bytes (refusedAt x place) = met (outcome words bytes (refusedAt x place))
 
+-- Refusals 1 to 3 are tested in this order, before the first byte.
 unfoldable pub read : Config → List ℕ → List ℕ → List ℕ → Read
 read config input words text =
     let done = readOf (length words) (length text) (parsed config input (lentBy words text)) in
@@ -87,9 +94,10 @@ abbrev pub after : {A : Type 0} → Read → (Node → Outcome → A) → (Outco
 after (passed tree o) onward refusal = onward tree o
 after (met o) onward refusal = refusal o
 
--- The outcome of a reading.
+-- The outcome alone.
 abbrev pub outcomeOf : Read → Outcome
 outcomeOf r = after r (λ tree o. o) (λ o. o)
 
+-- What a reading answers and leaves: settings, input, words, text.
 abbrev pub reading : Config → List ℕ → List ℕ → List ℕ → Outcome
 reading config input words text = outcomeOf (read config input words text)

@@ -6,8 +6,8 @@ use lib.Dec.{eqb}
 use lib.ListN.{length, replicate}
 use Rattle.row.specs.Row.{recordWidth, noKeyKind, intKeyKind, stringKeyKind}
 use Rattle.row.specs.Row.{uninitializedKind, mapKind, sequenceKind, stringKind, nullKind, noValueKind}
-use Rattle.reading.specs.Values.{Label, unkeyed, intKey, stringKey, Row, Value, uninitialized, null, noValue, string}
-use Rattle.reading.specs.Values.{map, sequence, Forest, none, child, Node}
+use Rattle.reading.specs.Values.{Label, unkeyed, intKey, stringKey, Row, Value, uninitialized, null, noValue}
+use Rattle.reading.specs.Values.{string, map, sequence, Forest, none, child, Node}
 
 -- "0 kind: 0 Uninitialized, 1 Map, 2 Sequence, 3 String, 4 Null, 5 NoValue"
 abbrev pub kind : Value → ℕ
@@ -18,8 +18,8 @@ kind (string o x) = stringKind
 kind null = nullKind
 kind noValue = noValueKind
 
--- "1 key kind: 0 none, 1 Int, 2 String"; "2 Int value or key's text offset (0 for an empty key); 3 key length (0 for Int); both 0 for key
--- kind 0"
+-- "1 key kind: 0 none, 1 Int, 2 String"; "2 Int value or key's text offset (0 for an empty key); 3 key length (0 for
+-- Int); both 0 for key kind 0"
 abbrev pub keyWords : Label → List ℕ
 keyWords unkeyed = noKeyKind ∷ 0 ∷ 0 ∷ []
 keyWords (intKey a) = intKeyKind ∷ a ∷ 0 ∷ []

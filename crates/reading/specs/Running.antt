@@ -1,5 +1,5 @@
--- The table carried out: each command on the tree, and the takings one after the other. Document 01, 'Taking a byte' (the place), 'Refused
--- readings' (the first met ends the reading).
+-- The table carried out: each command on the tree, and the takings one after the other. Document 01, 'Taking a byte'
+-- (the place), 'Refused readings' (the first met ends the reading).
 use Prim.Native.Nat.{ℕ, _+_}
 use mathlib.Core.List.{List, [], _∷_}
 use lib.ListN.{length}
@@ -9,7 +9,8 @@ use Rattle.refusals.specs.declared.Refusal.{Refusal}
 use Rattle.reading.specs.Charging.{Environment, Used, Made, made, refused, Rule}
 use Rattle.reading.specs.Adding.{becomeMap, becomeSequence, appendValue, insertUnique, enterKey, pushLast, atPath}
 use Rattle.reading.specs.Taking.{Token, token}
-use Rattle.reading.specs.Scanning.{root, under, last, Command, skip, refuse, enter, needMap, needSequence, add, Mode, step, finish}
+use Rattle.reading.specs.Scanning.{root, under, last, Command, skip, refuse, enter, needMap, needSequence, add}
+use Rattle.reading.specs.Scanning.{Mode, step, finish}
 
 -- A command on a tree, with what is used so far.
 abbrev pub perform : Environment → Command → Rule Node
@@ -19,7 +20,8 @@ perform env (enter path key) tree used = atPath path (enterKey env key) (tree .r
 perform env (needMap path) tree used = atPath path becomeMap (tree .row) (tree .value) used
 perform env (needSequence path) tree used = atPath path becomeSequence (tree .row) (tree .value) used
 perform env (add root leaf) tree used = appendValue env leaf (tree .row) (tree .value) used
-perform env (add (under path key) leaf) tree used = atPath path (insertUnique env key leaf) (tree .row) (tree .value) used
+perform env (add (under path key) leaf) tree used =
+    atPath path (insertUnique env key leaf) (tree .row) (tree .value) used
 perform env (add (last path) leaf) tree used = atPath path (pushLast env leaf) (tree .row) (tree .value) used
 
 -- What a reading answers: accepted, with the tree and what it uses; or a refusal and its place.
@@ -36,7 +38,8 @@ abbrev pub resume : ℕ → Made Node → (Node → Used → Answer) → Answer
 resume place (made tree used) onward = onward tree used
 resume place (refused x) onward = refusedAt x place
 
--- The takings that are left, from any "place" (document 01's term: the number of bytes taken), mode, tree, and what is used. "Each taking adds 1, also past the end": the end is taken at one place more.
+-- The takings that are left, from any "place" (document 01's term: the number of bytes taken), mode, tree, and what is
+-- used. "Each taking adds 1, also past the end": the end is taken at one place more.
 abbrev pub run : Config → Environment → List Token → ℕ → Mode → Node → Used → Answer
 run config env [] place mode tree used = resume (place + 1) (perform env (finish config mode) tree used) accepted
 run config env (token symbol b s ∷ later) place mode tree used =

@@ -1,5 +1,6 @@
--- Document 01, 'The root (`parse`)', 'A value (`collect_value`)' and 'Inside a bracket (`parse_nested_key`)', as a table: where the
--- reading stands and what it takes give what is done to the tree and where it stands then. The table never looks at the tree.
+-- Document 01, 'The root (`parse`)', 'A value (`collect_value`)' and 'Inside a bracket (`parse_nested_key`)', as a
+-- table: where the reading stands and what it takes give what is done to the tree and where it stands then. The table
+-- never looks at the tree.
 use Prim.Native.Nat.{ℕ, _+_}
 use mathlib.Core.Bool.{cond}
 use mathlib.Core.List.{List, [], _∷_, _++_}
@@ -12,8 +13,8 @@ use Rattle.refusals.specs.declared.Refusal.the-variants.{EndAfterOpening, EndBe
 use Rattle.refusals.specs.declared.Refusal.the-variants.{OpeningAfterBrackets, ByteAfterBrackets}
 use Rattle.reading.specs.Taking.{Symbol, ampersand, equals, opening, closing, other}
 
--- Where a value goes: it is added to the root itself, put under a key of the map at a path, or last in the sequence at a path. A path is
--- the keys that lead from the root to a value.
+-- Where a value goes: it is added to the root itself, put under a key of the map at a path, or last in the sequence at
+-- a path. A path is the keys that lead from the root to a value.
 pub data Target : Type 0 where
   root : Target
   under : List Key → Key → Target
@@ -70,12 +71,14 @@ finish config (afterBrackets path) = add (last path) noValue
 
 -- "If level is less than depth the segment starts after `[`, else at the `[`."
 abbrev pub keyStart : Config → List Key → ℕ → List ℕ → List ℕ → Mode
-keyStart config path level opened raw = cond (ltb level (config .depth)) (keyBelowDepth path level raw) (keyAtDepth path (opened ++ raw))
+keyStart config path level opened raw =
+    cond (ltb level (config .depth)) (keyBelowDepth path level raw) (keyAtDepth path (opened ++ raw))
 
 -- What taking a symbol does, with the raw bytes that were taken. After a refusal the next mode doesn't matter.
 abbrev pub step : Config → Mode → Symbol → List ℕ → Step
--- "At `=`: take the value, then put it under the key in the root map, or with no key add it to the root. At `[` (depth above 0): a key is
--- entered in the root map, Uninitialized if new; no key means the root itself; go to the bracket, level 0. Other bytes lengthen the segment."
+-- "At `=`: take the value, then put it under the key in the root map, or with no key add it to the root. At `[` (depth
+-- above 0): a key is entered in the root map, Uninitialized if new; no key means the root itself; go to the bracket,
+-- level 0. Other bytes lengthen the segment."
 step config (rootKey s) ampersand raw = finish config (rootKey s) then rootKey []
 step config (rootKey []) equals raw = skip then value root []
 step config (rootKey (b ∷ s)) equals raw = skip then value (under [] (keyOf config (b ∷ s))) []
@@ -91,8 +94,8 @@ step config (value target s) equals raw = skip then value target (s ++ raw)
 step config (value target s) opening raw = skip then value target (s ++ raw)
 step config (value target s) closing raw = skip then value target (s ++ raw)
 step config (value target s) other raw = skip then value target (s ++ raw)
--- "`]`: Uninitialized becomes Sequence, a Sequence serves, the rest refuse (6, 7)." "Any other byte opens the key, even `&` or `=`, and
--- needs a map here."
+-- "`]`: Uninitialized becomes Sequence, a Sequence serves, the rest refuse (6, 7)." "Any other byte opens the key, even
+-- `&` or `=`, and needs a map here."
 step config (bracket path level opened) ampersand raw = needMap path then keyStart config path level opened raw
 step config (bracket path level opened) equals raw = needMap path then keyStart config path level opened raw
 step config (bracket path level opened) opening raw = needMap path then keyStart config path level opened raw
@@ -110,7 +113,8 @@ step config (keyAtDepth path s) equals raw = skip then value (under path (keyOf 
 step config (keyAtDepth path s) opening raw = skip then keyAtDepth path (s ++ raw)
 step config (keyAtDepth path s) closing raw = skip then keyAtDepth path (s ++ raw)
 step config (keyAtDepth path s) other raw = skip then keyAtDepth path (s ++ raw)
--- "Then `&` or end puts NoValue, `=` takes and puts a value, `[` enters the key and goes one level on, others refuse 11."
+-- "Then `&` or end puts NoValue, `=` takes and puts a value, `[` enters the key and goes one level on, others refuse
+-- 11."
 step config (afterKey path level key) ampersand raw = finish config (afterKey path level key) then rootKey []
 step config (afterKey path level key) equals raw = skip then value (under path key) []
 step config (afterKey path level key) opening raw = enter path key then bracket (path ++ (key ∷ [])) (level + 1) raw

@@ -1,5 +1,5 @@
--- The shape of the tree that an accepted reading makes. Document 01, 'Settings and the lent buffers' (numbers, "Map children stand in key
--- order"), 'A ticket that grows' ("single", "undecided"). Proved in proofs/Outcomes as `shape`.
+-- The shape of the tree that an accepted reading makes. Document 01, 'Settings and the lent buffers' (numbers, "Map
+-- children stand in key order"), 'A ticket that grows' ("single", "undecided"). Proved in proofs/Outcomes as `shape`.
 use Prim.Native.Nat.{ℕ, _<_, Ordering·lt}
 use mathlib.Core.Path.{_≡_}
 use mathlib.Core.List.{List}
@@ -10,11 +10,13 @@ use Rattle.key.specs.KeyOrder.{compareKeys}
 use Rattle.reading.specs.Running.{Accepts}
 use Rattle.reading.specs.Reading.{lentBy, parsed, reading}
 
+-- A key of a Map's child, an Int or a String.
 abbrev pub Keyed : Label → Type 0
 Keyed unkeyed = ⊥
 Keyed (intKey a) = Unit
 Keyed (stringKey o x) = Unit
 
+-- No key: an element of a Sequence.
 abbrev pub Unkeyed : Label → Type 0
 Unkeyed unkeyed = Unit
 Unkeyed (intKey a) = ⊥
@@ -36,6 +38,7 @@ abbrev pub ShapedSequence : Forest → Type 0
 ShapedSequence none = Unit
 ShapedSequence (child number row value later) = Unkeyed (row .label) × SingleValue value × ShapedSequence later
 
+-- The Maps and Sequences in a value are as they should be.
 abbrev mutual
   pub Shaped : Value → Type 0
   Shaped uninitialized = Unit
@@ -74,7 +77,8 @@ DecidedBelow (string o x) = Unit
 DecidedBelow (map children) = DecidedAll children
 DecidedBelow (sequence children) = Unit
 
--- "every child has a greater number than its parent", and all numbers are below the records used. The value's own number is given.
+-- "every child has a greater number than its parent", and all numbers are below the records used. The value's own
+-- number is given.
 abbrev mutual
   pub Rising : ℕ → ℕ → Value → Type 0
   Rising number used uninitialized = Unit
@@ -96,6 +100,7 @@ pub record WellShaped (used : ℕ) (tree : Node) : Type 0 where
   pub decided : DecidedBelow (tree .value)
   pub rising : Rising 0 used (tree .value)
 
+-- Every accepted reading makes such a tree.
 abbrev pub Shape : Type 0
 Shape =
     (config : Config) (input words text : List ℕ)

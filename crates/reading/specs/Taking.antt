@@ -1,4 +1,5 @@
--- Document 01, 'Taking a byte (`next`)'. A taking doesn't depend on what was taken before, so an input is the list of its takings.
+-- Document 01, 'Taking a byte (`next`)'. A taking doesn't depend on what was taken before, so an input is the list of
+-- its takings.
 use Prim.Native.Nat.{ℕ}
 use mathlib.Core.Bool.{cond, _&&_}
 use mathlib.Core.List.{List, [], _∷_}

@@ -1,4 +1,5 @@
--- Tests of the reading: an input with its settings and lent buffers, and everything that document 01 says of its outcome.
+-- Tests of the reading: an input with its settings and lent buffers, and everything that document 01 says of its
+-- outcome.
 use Prim.Native.Nat.{ℕ, _*_, _-_}
 use Prim.Native.String.{String}
 use mathlib.Core.Path.{_≡_}
@@ -13,8 +14,8 @@ use Rattle.row.specs.Row.{uninitializedKind, mapKind, sequenceKind, stringKind,
 use Rattle.reading.specs.declared.Reading.{Reading}
 use Rattle.reading.specs.Reading.{Outcome, accepts, reading}
 
--- What is expected: accepted, with each record that is used and the text that is used; refused with a number and place; or refused with a
--- number and the buffers unchanged.
+-- What is expected: accepted, with each record that is used and the text that is used; refused with a number and place;
+-- or refused with a number and the buffers unchanged.
 pub data Expected : Type 0 where
   holds : List (List ℕ) → String → Expected
   refuses : ℕ → ℕ → Expected
@@ -31,7 +32,8 @@ keyPart noKey = noKeyKind ∷ 0 ∷ 0 ∷ []
 keyPart (int a) = intKeyKind ∷ a ∷ 0 ∷ []
 keyPart (str offset len) = stringKeyKind ∷ offset ∷ len ∷ []
 
--- The words of a record of each kind: its key; a String's offset and length; the first child's number; the next sibling's, 0 for none.
+-- The words of a record of each kind: its key; a String's offset and length; the first child's number; the next
+-- sibling's, 0 for none.
 abbrev pub uninitRow : List ℕ
 uninitRow = uninitializedKind ∷ keyPart noKey ++ (0 ∷ 0 ∷ 0 ∷ 0 ∷ [])
 

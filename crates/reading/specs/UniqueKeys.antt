@@ -1,11 +1,12 @@
--- Document 01, 'A ticket that grows': "its value there" is one value. No map of the tree that an accepted reading leaves has a key twice. Proved
--- in proofs/Unique as `unique-keys`.
+-- Document 01, 'A ticket that grows': "its value there" is one value. No map of the tree that an accepted reading
+-- leaves has a key twice. Proved in proofs/Unique as `unique-keys`.
 use mathlib.Core.Path.{_≡_}
 use mathlib.Core.List.{List}
 use Prim.Native.Nat.{ℕ}
 use Rattle.config.specs.declared.Config.{Config}
 use Rattle.reading.specs.Reading.{reading}
-use Rattle.reading.specs.Trees.{Tree, uninitialized, null, noValue, string, map, sequence, Entries, noEntries, entry}
+use Rattle.reading.specs.Trees.{Tree, uninitialized, null, noValue, string, map, sequence, Entries, noEntries}
+use Rattle.reading.specs.Trees.{entry}
 use Rattle.reading.specs.Buffers.{treeIn}
 use Rattle.reading.specs.Keeping.{Has}
 

@@ -1,5 +1,6 @@
--- Document 01, 'Settings and the lent buffers': the tree that a reading makes, as its records have it. Every value stands with its row,
--- and every one but the root, which is record 0, with its record number; every text with its offset.
+-- Document 01, 'Settings and the lent buffers': the tree that a reading makes, as its records have it. Every value
+-- stands with its row, and every one but the root, which is record 0, with its record number; every text with its
+-- offset.
 use Prim.Native.Nat.{ℕ}
 use mathlib.Core.List.{List, []}
 use Rattle.key.specs.Keys.{Key, int, str}
@@ -20,6 +21,7 @@ labelKey (stringKey o x) = str x
 pub record Row : Type 0 where
   pub label : Label
 
+-- The key in the row of a Map's child.
 abbrev pub rowKey : Row → Key
 rowKey row = labelKey (row .label)
 
@@ -44,5 +46,6 @@ pub record Node : Type 0 where
   pub row : Row
   pub value : Value
 
+-- This value with this row.
 abbrev pub at : Row → Value → Node
 at row value = record { row = row; value = value }
