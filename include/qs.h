@@ -69,9 +69,9 @@ int64_t qs_decode(const uint8_t *raw, size_t raw_len, uint8_t *out, size_t out_l
 int32_t qs_utf8(const uint8_t *bytes, size_t bytes_len);
 
 /*
- * Reads a query string into records of eight words, and text; records_len counts words, not records. Brackets nest to
- * depth; where form isn't 0, %5B and %5D are taken as brackets. What an accepted reading doesn't use is zero. Refusals 1 to 3
- * leave both buffers as they were, and the later ones zero them.
+ * Reads a query string into records of QS_RECORD_WORDS words, and text; records_len counts words, not records. Brackets nest
+ * to depth; where form isn't 0, %5B and %5D are taken as brackets. What an accepted reading doesn't use is zero. Refusals 1 to
+ * 3 leave both buffers as they were, and the later ones zero them.
  */
 struct qs_reading qs_parse(uint32_t depth, uint32_t form, const uint8_t *input, size_t input_len, uint32_t *records,
                            size_t records_len, uint8_t *text, size_t text_len);

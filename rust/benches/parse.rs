@@ -1,6 +1,6 @@
 //! How long `qs_parse` takes beside the crate's own `parse`, in one process: `rust/cargo.sh bench`.
 //!
-//! Both are given the same input again and again. Ours has n + 1 records and n bytes of text lent and clears them each time; the
+//! Both are given the same input again and again. Ours has buffers lent that always suffice, and clears them each time; the
 //! crate's time has the making and the dropping of its tree in it. Each figure is the least of several rounds.
 
 use std::hint::black_box;
@@ -18,12 +18,11 @@ fn main() {
         for length in [20_000, 40_000] {
             let input = make(length);
             let crates = time(|| assert!(serde_qs_reference::accepts(black_box(&input), 5, false)));
-            let mut records = vec![0; (input.len() + 1) * 8];
-            let mut text = vec![0; input.len()];
+            let (mut records, mut text) = qs::buffers(input.len());
             let ours = time(|| {
                 let config = qs::Config::default();
                 let reading = qs::parse(config, black_box(&input), &mut records, &mut text);
-                assert_eq!(reading.number, 0);
+                assert_eq!(reading.number, qs::refusal::ACCEPTED);
             });
             let ratio = ours.as_secs_f64() / crates.as_secs_f64();
             let micros = |time: Duration| time.as_secs_f64() * 1e6;

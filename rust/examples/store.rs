@@ -8,19 +8,21 @@
 pub(crate) mod common;
 
 use common::inputs::{long_query, query};
-use common::{tree, Random};
-use model::{read, Config, Outcome, WIDTH};
+use common::{programs, tree, Random};
+use model::row::WIDTH;
+use model::{read, Config, Outcome, MAX_DEPTH, MAX_LEN};
+use qs::refusal;
 use std::collections::BTreeSet;
 use std::io::{self, Write};
 
 /// The most that a case lends: as much as document 01's listing program.
-pub const MOST_WORDS: usize = 2_000 * WIDTH;
-pub const MOST_BYTES: usize = 65_535;
+pub const MOST_WORDS: usize = programs::LIST_RECORDS * WIDTH;
+pub const MOST_BYTES: usize = programs::LIST_BYTES;
 
 /// What the buffers hold before.
-const BEFORE: u8 = 7;
+pub const BEFORE: u8 = 7;
 
-const DEPTHS: [u32; 5] = [0, 1, 2, 5, 64];
+const DEPTHS: [u32; 5] = [0, 1, 2, 5, MAX_DEPTH];
 
 /// Document 01's "Tickets to try" at depth 5, in its order, with the flag.
 const INPUTS_TO_TRY: [(&[u8], bool); 35] = [
@@ -102,10 +104,10 @@ impl Store {
         for bytes in [2, 3] {
             self.add(depth(5), b"ab=c", 2 * WIDTH, bytes);
         }
-        for at in [64, 65] {
+        for at in [MAX_DEPTH, MAX_DEPTH + 1] {
             self.add(depth(at), b"a=1", MOST_WORDS, MOST_BYTES);
         }
-        for length in [65_535, 65_536] {
+        for length in [MAX_LEN, MAX_LEN + 1] {
             self.add(depth(5), &vec![b'&'; length], WIDTH, 0);
         }
     }
@@ -113,7 +115,7 @@ impl Store {
     /// Both sides of the limits: depths, words for the root, and nesting.
     fn limits(&mut self) {
         for form in [false, true] {
-            for depth in [63, 64, 65, 66, u32::MAX] {
+            for depth in (MAX_DEPTH - 1..=MAX_DEPTH + 2).chain([u32::MAX]) {
                 self.add(Config { depth, form }, b"a[b]=1", 6 * WIDTH, 6);
             }
             for words in 0..2 * WIDTH + 2 {
@@ -138,7 +140,7 @@ impl Store {
                     let pairs = 1 + random.below(6);
                     let input = query(&mut random, pairs);
                     let (words, bytes) = match random.below(3) {
-                        0 => ((input.len() + 1) * WIDTH, input.len()),
+                        0 => qs::room(input.len()),
                         1 => (MOST_WORDS, MOST_BYTES),
                         _ => (random.below(8 * WIDTH), random.below(12)),
                     };
@@ -193,8 +195,8 @@ impl Store {
 /// Panics where the crate reads otherwise, or isn't there. Refusals 1 to 3, 14 and 15 are document 01's own.
 fn hold_against_the_crate(config: Config, input: &[u8], outcome: &Outcome) {
     let answer = match outcome.number {
-        0 => Ok(tree(&outcome.words, &outcome.text)),
-        4..=13 => Err((outcome.number, outcome.place as usize)),
+        refusal::ACCEPTED => Ok(tree(&outcome.words, &outcome.text)),
+        number if refusal::OF_THE_CRATE.contains(&number) => Err((number, outcome.place as usize)),
         _ => return,
     };
     let reference = serde_qs_reference::parse(input, config.depth as usize, config.form);

@@ -4,6 +4,9 @@
 //! [`c`] against the library's own source. Each function there has one safe wrapper here, which
 //! hands slices over whole and turns the number that C gets into a Rust value.
 
+pub mod refusal;
+pub mod row;
+
 /// The library's exports as C sees them: a slice is a pointer and then a count of elements.
 mod c {
     use super::{FieldRead, Reading};
@@ -93,10 +96,17 @@ pub fn is_utf8(bytes: &[u8]) -> bool {
 /// How a query string is read.
 #[derive(Clone, Copy, Debug, PartialEq, Eq)]
 pub struct Config {
-    /// How deep brackets nest, at most 64.
+    /// How deep brackets nest, at most [`Config::MAX_DEPTH`].
     pub depth: u32,
     /// Whether `%5B` and `%5D` are taken as brackets.
     pub form: bool,
+}
+
+impl Config {
+    /// The most that brackets may nest; a greater depth is refused.
+    pub const MAX_DEPTH: u32 = 64;
+    /// The most bytes of an input; a longer one is refused.
+    pub const MAX_LEN: usize = 65_535;
 }
 
 impl Default for Config {
@@ -108,7 +118,7 @@ impl Default for Config {
     }
 }
 
-/// What a reading answers: `number` is 0 where it was accepted, else the refusal's number in document 01.
+/// What a reading answers: `number` is 0 where it was accepted, else the number of its [`refusal`].
 #[repr(C)]
 #[derive(Clone, Copy, Debug, PartialEq, Eq)]
 pub struct Reading {
@@ -120,11 +130,26 @@ pub struct Reading {
     pub bytes: u32,
 }
 
-/// Reads a query string into lent records of eight words, and text. For `n` bytes of input `n + 1` records, which are `8 * (n + 1)`
-/// words, and `n` bytes of text always suffice.
+/// The words of records and the bytes of text that suffice for every input of so many bytes: a record for each and one more, and a
+/// byte of text for each.
 ///
 /// ```
-/// let (mut records, mut text) = ([0; 32], [0; 3]);
+/// assert_eq!(qs::room(3), (4 * qs::row::WIDTH, 3));
+/// ```
+pub const fn room(length: usize) -> (usize, usize) {
+    (row::WIDTH * (length + 1), length)
+}
+
+/// Records and text to lend for an input of so many bytes; they have the [`room`] that always suffices.
+pub fn buffers(length: usize) -> (Vec<u32>, Vec<u8>) {
+    let (words, bytes) = room(length);
+    (vec![0; words], vec![0; bytes])
+}
+
+/// Reads a query string into lent records of [`row::WIDTH`] words, and text. [`buffers`] makes such as always suffice.
+///
+/// ```
+/// let (mut records, mut text) = qs::buffers(3);
 /// let reading = qs::parse(qs::Config::default(), b"a=1", &mut records, &mut text);
 /// assert_eq!((reading.number, reading.records, reading.bytes), (0, 2, 2));
 /// assert_eq!(&text[..2], b"a1");
@@ -167,15 +192,13 @@ impl DuplicateKeyBehavior {
     }
 }
 
-/// What a field read answers: first the answer of the reading, as in [`Reading`], then the field.
+/// What a field read answers: the answer of the reading, and the field. In C the reading's four numbers stand flat before the field's
+/// two.
 #[repr(C)]
 #[derive(Clone, Copy, Debug, PartialEq, Eq)]
 pub struct FieldRead {
-    /// 0 where the field was read; 1 to 15 where the reading was refused, 16 to 22 where the field was.
-    pub number: u32,
-    pub place: u32,
-    pub records: u32,
-    pub bytes: u32,
+    /// Its number is 0 where the field was read; 1 to 15 where the reading was refused, 16 to 22 where the field was.
+    pub reading: Reading,
     /// Where the field's bytes start in the text; 0 for a list.
     pub offset: u32,
     /// The number of the field's bytes, or of a list's elements.
@@ -188,14 +211,14 @@ pub struct FieldRead {
 ///
 /// ```
 /// use qs::{Config, DuplicateKeyBehavior::{Error, TakeLast}};
-/// let (mut records, mut text) = ([0; 64], [0; 16]);
+/// let (mut records, mut text) = qs::buffers(16);
 /// let read = qs::text(Config::default(), TakeLast, b"w=fog&w=d%C3%A9j", b"w", &mut records, &mut text);
-/// assert_eq!((read.number, read.records, read.bytes), (0, 4, 8));
-/// assert_eq!(&text[read.offset as usize..][..read.length as usize], "déj".as_bytes());
+/// assert_eq!((read.reading.number, read.reading.records, read.reading.bytes), (0, 4, 8));
+/// assert_eq!(qs::row::part(&text, read.offset, read.length), "déj".as_bytes());
 /// let read = qs::text(Config::default(), Error, b"w=fog&w=dew", b"w", &mut records, &mut text);
-/// assert_eq!(read.number, 19);
+/// assert_eq!(read.reading.number, qs::refusal::SEVERAL_VALUES);
 /// let read = qs::text(Config::default(), TakeLast, b"1=x", b"1", &mut records, &mut text);
-/// assert_eq!(read.number, 17);
+/// assert_eq!(read.reading.number, qs::refusal::NO_SUCH_FIELD);
 /// ```
 pub fn text(
     config: Config,
@@ -230,12 +253,12 @@ pub fn text(
 ///
 /// ```
 /// use qs::{Config, DuplicateKeyBehavior::TakeLast};
-/// let (mut records, mut text, mut list) = ([0; 64], [0; 16], [7; 6]);
+/// let ((mut records, mut text), mut list) = (qs::buffers(12), [7; 6]);
 /// let read = qs::list(Config::default(), TakeLast, b"h[]=10&h[]=9", b"h", &mut records, &mut text, &mut list);
-/// assert_eq!((read.number, read.length), (0, 2));
+/// assert_eq!((read.reading.number, read.length), (0, 2));
 /// assert_eq!((list, &text[..4]), ([1, 2, 3, 1, 0, 0], &b"h109"[..]));
 /// let read = qs::list(Config::default(), TakeLast, b"h[]=10&h[]=9", b"h", &mut records, &mut text, &mut list[..3]);
-/// assert_eq!((read.number, read.length), (22, 0));
+/// assert_eq!((read.reading.number, read.length), (qs::refusal::SHORT_SLICE, 0));
 /// ```
 pub fn list(
     config: Config,

@@ -1,6 +1,8 @@
-//! The exports as a C program calls them: include/qs.h compiles without a warning, and tests/c/calls.c gets
-//! the answers that it states.
+//! The exports as a C program calls them: include/qs.h compiles without a warning and has the Rust side's numbers, and
+//! tests/c/calls.c gets the answers that it states.
 
+use qs::{row, Config, FieldRead, Reading};
+use std::mem::size_of;
 use std::path::{Path, PathBuf};
 use std::process::Command;
 
@@ -11,6 +13,17 @@ fn run(command: &mut Command) -> String {
     let written = String::from_utf8_lossy(&written).into_owned();
     assert!(output.status.success(), "{command:?}\n{written}");
     written
+}
+
+/// The Rust side's numbers, defined for the C program to compare with the header's.
+fn numbers() -> [String; 5] {
+    [
+        format!("-DRUST_RECORD_WORDS={}", row::WIDTH),
+        format!("-DRUST_MAX_DEPTH={}", Config::MAX_DEPTH),
+        format!("-DRUST_MAX_INPUT={}", Config::MAX_LEN),
+        format!("-DRUST_READING_SIZE={}", size_of::<Reading>()),
+        format!("-DRUST_FIELD_READ_SIZE={}", size_of::<FieldRead>()),
+    ]
 }
 
 #[test]
@@ -27,6 +40,7 @@ fn a_c_program_calls_each_export() {
             "-Werror",
             "-O1",
         ])
+        .args(numbers())
         .arg("-I")
         .arg(top.join("include"))
         .arg(rust.join("tests/c/calls.c"))

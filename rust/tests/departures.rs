@@ -7,15 +7,15 @@ use common::inputs::query;
 use common::rows::{expected, leaves, Expected, Row};
 use common::whatwg::{pairs, splits_as_the_standard};
 use common::{every_string, times, tree, Random};
-use qs::Config;
+use qs::{refusal, Config};
 use serde_qs_reference::{Key, Tree};
 
 /// The tree that an input gives here, or the refusal's number and place.
 fn read(config: Config, input: &[u8]) -> Result<Tree, (u32, u32)> {
-    let (mut records, mut text) = (vec![0; 8 * (input.len() + 1)], vec![0; input.len()]);
+    let (mut records, mut text) = qs::buffers(input.len());
     let reading = qs::parse(config, input, &mut records, &mut text);
     match reading.number {
-        0 => Ok(tree(&records, &text)),
+        refusal::ACCEPTED => Ok(tree(&records, &text)),
         number => Err((number, reading.place)),
     }
 }
@@ -213,7 +213,7 @@ fn beside_the_rows() {
 #[test]
 fn limits() {
     let deep = Config {
-        depth: 65,
+        depth: Config::MAX_DEPTH + 1,
         ..Config::default()
     };
     assert_eq!(read(deep, b""), Err((1, 0)));
@@ -224,7 +224,7 @@ struct Search {
     inputs: usize,
     accepted: usize,
     /// By number.
-    refused: [usize; 14],
+    refused: [usize; refusal::ALL.len()],
     /// Readings in which no row is at work.
     without: usize,
     /// For each row in how many readings it is at work, and how long the shortest input of those is.
@@ -236,7 +236,7 @@ impl Search {
         Search {
             inputs: 0,
             accepted: 0,
-            refused: [0; 14],
+            refused: [0; refusal::ALL.len()],
             without: 0,
             rows: [(0, usize::MAX); Row::COUNT],
         }
@@ -273,7 +273,9 @@ impl Search {
     /// Says what was met; each refusal and each row has to be, and no reading may be left out.
     fn report(&self, what: &str) {
         let (inputs, accepted, without) = (self.inputs, self.accepted, self.without);
-        let numbers = &self.refused[4..];
+        let numbers: Vec<usize> = refusal::OF_THE_CRATE
+            .map(|number| self.refused[number as usize])
+            .collect();
         let refused: usize = numbers.iter().sum();
         assert_eq!(accepted + refused, 6 * inputs, "none is skipped");
         assert!(numbers.iter().all(|&readings| readings > 0), "{numbers:?}");

@@ -5,10 +5,11 @@
 mod common;
 
 use common::inputs::{fields_query, query, BYTES, NAMES};
-use common::{every_string, reference_is_there, times, Random};
-use model::{FieldOutcome, Outcome, WIDTH};
+use common::{every_string, outcome, random_config, reference_is_there, settings, times, Random};
+use model::FieldOutcome;
+use qs::row::{part, WIDTH};
 use qs::DuplicateKeyBehavior::{self, Error, TakeLast};
-use qs::{Config, FieldRead};
+use qs::{refusal, Config, FieldRead};
 use serde_qs_reference::{Key, Tree};
 
 /// What a text read and a list read mean: bytes, or the refusal's number.
@@ -28,10 +29,11 @@ struct Sizes {
 impl Sizes {
     /// They suffice for every input of so many bytes.
     fn ample(length: usize) -> Self {
+        let (words, bytes) = qs::room(length);
         Sizes {
-            words: (length + 1) * WIDTH,
-            bytes: length,
-            list: 2 * length + 2,
+            words,
+            bytes,
+            list: 2 * (length + 1),
         }
     }
 
@@ -65,7 +67,7 @@ impl Read<'_> {
             &mut words,
             &mut text,
         );
-        outcome(read, words, text, Vec::new())
+        field_outcome(read, words, text, Vec::new())
     }
 
     fn list(self, sizes: Sizes) -> FieldOutcome {
@@ -79,7 +81,7 @@ impl Read<'_> {
             &mut text,
             &mut list,
         );
-        outcome(read, words, text, list)
+        field_outcome(read, words, text, list)
     }
 
     fn model_text(self, sizes: Sizes) -> FieldOutcome {
@@ -97,8 +99,7 @@ impl Read<'_> {
     }
 
     fn model_settings(self) -> (model::Config, bool) {
-        let Config { depth, form } = self.config;
-        (model::Config { depth, form }, self.duplicates == Error)
+        (settings(self.config), self.duplicates == Error)
     }
 
     /// The crate's text and list. Its names are text.
@@ -127,30 +128,21 @@ impl Read<'_> {
     }
 }
 
-fn outcome(read: FieldRead, words: Vec<u32>, text: Vec<u8>, list: Vec<u32>) -> FieldOutcome {
+fn field_outcome(read: FieldRead, words: Vec<u32>, text: Vec<u8>, list: Vec<u32>) -> FieldOutcome {
     FieldOutcome {
-        reading: Outcome {
-            number: read.number,
-            place: read.place,
-            records: read.records,
-            bytes: read.bytes,
-            words,
-            text,
-        },
+        reading: outcome(read.reading, words, text),
         offset: read.offset,
         length: read.length,
         list,
     }
 }
 
-fn part(text: &[u8], offset: u32, length: u32) -> Vec<u8> {
-    text[offset as usize..][..length as usize].to_vec()
-}
-
 /// The text that an answer of `qs_text` means.
 fn text_meant(outcome: &FieldOutcome) -> Result<Vec<u8>, u32> {
     match outcome.reading.number {
-        0 => Ok(part(&outcome.reading.text, outcome.offset, outcome.length)),
+        refusal::ACCEPTED => {
+            Ok(part(&outcome.reading.text, outcome.offset, outcome.length).to_vec())
+        }
         number => Err(number),
     }
 }
@@ -158,11 +150,11 @@ fn text_meant(outcome: &FieldOutcome) -> Result<Vec<u8>, u32> {
 /// The list that an answer of `qs_list` means.
 fn list_meant(outcome: &FieldOutcome) -> Result<Vec<Vec<u8>>, u32> {
     match outcome.reading.number {
-        0 => Ok(outcome
+        refusal::ACCEPTED => Ok(outcome
             .list
             .chunks_exact(2)
             .take(outcome.length as usize)
-            .map(|word| part(&outcome.reading.text, word[0], word[1]))
+            .map(|word| part(&outcome.reading.text, word[0], word[1]).to_vec())
             .collect()),
         number => Err(number),
     }
@@ -171,8 +163,8 @@ fn list_meant(outcome: &FieldOutcome) -> Result<Vec<Vec<u8>>, u32> {
 /// How often each number was answered, by text reads and by list reads.
 #[derive(Default)]
 struct Counts {
-    text: [usize; 23],
-    list: [usize; 23],
+    text: [usize; refusal::ALL.len()],
+    list: [usize; refusal::ALL.len()],
 }
 
 impl Counts {
@@ -213,7 +205,7 @@ impl Counts {
                 described()
             );
             assert!(
-                left.number == reading.number || reading.number == 0,
+                left.number == reading.number || reading.number == refusal::ACCEPTED,
                 "{}",
                 described()
             );
@@ -222,8 +214,8 @@ impl Counts {
     }
 
     fn report(&self, what: &str, text: &[usize], list: &[usize]) {
-        println!("{what}: text reads answered 0 to 22 {:?} times", self.text);
-        println!("{what}: list reads answered 0 to 22 {:?} times", self.list);
+        println!("{what}: text reads answered 0, 1, … {:?} times", self.text);
+        println!("{what}: list reads answered 0, 1, … {:?} times", self.list);
         for &number in text {
             assert!(
                 self.text[number] > 0,
@@ -236,13 +228,6 @@ impl Counts {
                 "{what}: no list read answered {number}"
             );
         }
-    }
-}
-
-fn random_config(random: &mut Random) -> Config {
-    Config {
-        depth: [0, 1, 2, 3, 5, 64][random.below(6)],
-        form: random.below(2) == 1,
     }
 }
 
@@ -393,7 +378,8 @@ fn slices_of_a_list() {
                 };
                 let (_, answer) = counts.with_the_model(read, sizes);
                 let short = list < 2 * elements;
-                assert_eq!(answer.reading.number == 22, short, "{}", read.described());
+                let refused = answer.reading.number == refusal::SHORT_SLICE;
+                assert_eq!(refused, short, "{}", read.described());
             }
         }
     }
@@ -420,22 +406,22 @@ fn a_field_of_the_wrong_kind_with_any_slice() {
             ..Sizes::ample(read.input.len())
         };
         let (_, answer) = counts.with_the_model(read, sizes);
-        assert_eq!(answer.reading.number, 18);
+        assert_eq!(answer.reading.number, refusal::WRONG_KIND);
     }
 }
 
 /// Refusals 1 to 3 leave every buffer as it was.
 #[test]
 fn untouched_buffers() {
-    let long = [b'&'; 65_536];
+    let long = [b'&'; Config::MAX_LEN + 1];
     let deep = Config {
-        depth: 65,
+        depth: Config::MAX_DEPTH + 1,
         form: false,
     };
     let cases: [(Config, &[u8], usize, u32); 3] = [
-        (deep, b"a=1", 64, 1),
-        (Config::default(), &long, 64, 2),
-        (Config::default(), b"a=1", 7, 3),
+        (deep, b"a=1", 8 * WIDTH, refusal::TOO_DEEP),
+        (Config::default(), &long, 8 * WIDTH, refusal::TOO_LONG),
+        (Config::default(), b"a=1", WIDTH - 1, refusal::NO_RECORD),
     ];
     let mut counts = Counts::default();
     for (config, input, words, number) in cases {
@@ -453,11 +439,8 @@ fn untouched_buffers() {
             };
             let (text, list) = counts.with_the_model(read, sizes);
             assert_eq!((text.reading.number, list.reading.number), (number, number));
-            assert_eq!(list.list, [7; 4]);
-            assert_eq!(
-                (list.reading.words, list.reading.text),
-                (vec![7; words], vec![7; 8])
-            );
+            let left = (list.reading.words, list.reading.text, list.list);
+            assert_eq!(left, sizes.buffers());
         }
     }
 }

@@ -109,7 +109,7 @@ fn a_refused_input_is_marked() {
     for arguments in [&["a[b]=1&a[]=2"][..], &["a[b]=1&a[]=2", "a", "b"]] {
         assert_eq!(run(arguments), (Some(1), String::new(), told.into()));
     }
-    let long = "a".repeat(65_536);
+    let long = "a".repeat(qs::Config::MAX_LEN + 1);
     let told = "layout: refused: the ticket is longer than 65,535 bytes (2)\n";
     assert_eq!(run(&[&long]), (Some(1), String::new(), told.into()));
     let output = layout(&[b"\x1b\xFF["]);

@@ -2,16 +2,15 @@
 
 mod common;
 
-use common::{programs, tree};
-use model::{read, Config, WIDTH};
+use common::programs::{self, LIST_BYTES, LIST_RECORDS};
+use common::tree;
+use model::row::WIDTH;
+use model::{read, Config, MAX_DEPTH, MAX_LEN};
+use qs::refusal;
 use serde_qs_reference::{Key, Tree};
 use std::collections::BTreeMap;
 use std::fmt::Write as _;
 use std::path::{Path, PathBuf};
-
-/// What the program lends.
-const RECORDS: usize = 2_000;
-const BYTES: usize = 65_535;
 
 fn program() -> Option<PathBuf> {
     programs::built("list")
@@ -33,12 +32,12 @@ fn hex(bytes: &[u8]) -> String {
 
 /// The listing of what the model reads.
 fn listing(config: Config, query: &[u8]) -> String {
-    let outcome = read(config, query, &[0; RECORDS * WIDTH], &[0; BYTES]);
+    let outcome = read(config, query, &[0; LIST_RECORDS * WIDTH], &[0; LIST_BYTES]);
     let mut lines = format!(
         "answer={}\nplace={}\nnodes={}\nbytes={}\n",
         outcome.number, outcome.place, outcome.records, outcome.bytes
     );
-    if outcome.number == 0 {
+    if outcome.number == refusal::ACCEPTED {
         values(&tree(&outcome.words, &outcome.text), 0, "-", &mut lines);
     }
     lines
@@ -164,11 +163,12 @@ fn bad_heads() {
 fn depths() {
     let Some(program) = program() else { return };
     let nested = [&b"a"[..], &b"[b]".repeat(70), b"=1"].concat();
-    for depth in [0, 1, 9, 10, 63, 64, 65, 99, 100, 999] {
+    let (most, above) = (MAX_DEPTH, MAX_DEPTH + 1);
+    for depth in [0, 1, 9, 10, most - 1, most, above, 99, 100, 999] {
         for form in [false, true] {
             for query in [&b""[..], b"a[b]=1", b"a%5Bb%5D=1", &nested] {
                 let printed = compare(&program, depth, form, query);
-                let expected = if depth > 64 { "answer=1" } else { "answer=0" };
+                let expected = if depth > most { "answer=1" } else { "answer=0" };
                 assert_eq!(answer(&printed), expected, "depth {depth}");
             }
         }
@@ -206,12 +206,14 @@ fn stored_queries() {
 fn both_sides_of_the_longest_query() {
     let Some(program) = program() else { return };
     for piece in [&b"&"[..], b"a", b"a&", b"%41+", b"[]&"] {
-        for length in [65_534, 65_535, 65_536, 65_537, 65_553, 65_554, 1_000_000] {
+        // 65,553 bytes are all that the program reads
+        let near = [MAX_LEN - 1, MAX_LEN, MAX_LEN + 1, MAX_LEN + 2];
+        for length in near.into_iter().chain([65_553, 65_554, 1_000_000]) {
             let query: Vec<u8> = piece.iter().copied().cycle().take(length).collect();
-            for depth in [5, 64, 65, 100] {
+            for depth in [5, MAX_DEPTH, MAX_DEPTH + 1, 100] {
                 let printed = compare(&program, depth, false, &query);
-                let too_long = depth <= 64 && length > BYTES;
-                assert_eq!(answer(&printed) == "answer=1", depth > 64);
+                let too_long = depth <= MAX_DEPTH && length > MAX_LEN;
+                assert_eq!(answer(&printed) == "answer=1", depth > MAX_DEPTH);
                 assert_eq!(answer(&printed) == "answer=2", too_long, "{length}");
             }
         }
@@ -222,8 +224,8 @@ fn both_sides_of_the_longest_query() {
 fn longest(pairs: usize, pair: impl Fn(usize) -> String) -> Vec<u8> {
     let pairs: Vec<String> = (0..pairs).map(pair).collect();
     let mut query = pairs.join("&").into_bytes();
-    assert!(query.len() < BYTES);
-    query.resize(BYTES, b'z');
+    assert!(query.len() < MAX_LEN);
+    query.resize(MAX_LEN, b'z');
     query
 }
 
@@ -240,10 +242,11 @@ fn the_largest_trees() {
     ];
     let mut most = 0;
     for (above, pair) in kinds {
-        let printed = compare(&program, 5, false, &longest(RECORDS - above, pair));
-        assert!(printed.contains("\nnodes=2000\n"), "{}", pair(0));
+        let printed = compare(&program, 5, false, &longest(LIST_RECORDS - above, pair));
+        let nodes = format!("\nnodes={LIST_RECORDS}\n");
+        assert!(printed.contains(&nodes), "{}", pair(0));
         most = most.max(printed.len());
-        let refused = compare(&program, 5, false, &longest(RECORDS - above + 1, pair));
+        let refused = compare(&program, 5, false, &longest(LIST_RECORDS - above + 1, pair));
         assert_eq!(answer(&refused), "answer=14", "{}", pair(0));
     }
     println!("the longest listing has {most} bytes");

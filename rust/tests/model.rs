@@ -4,21 +4,21 @@
 mod common;
 
 use common::inputs::{long_query, query, BYTES};
-use common::{every_string, reference_is_there, tree, Random};
-use model::{read, Config, WIDTH};
+use common::{every_string, random_config, reference_is_there, settings, tree, Random};
+use model::{read, Config};
+use qs::refusal;
 
-/// Compares the model, with n + 1 records and n text bytes, and gives whether it accepts.
+/// Compares the model, in buffers that always suffice, and gives whether it accepts.
 fn compare(config: Config, input: &[u8]) -> bool {
-    let words = vec![7; (input.len() + 1) * WIDTH];
-    let text = vec![7; input.len()];
-    let outcome = read(config, input, &words, &text);
+    let (words, bytes) = qs::room(input.len());
+    let outcome = read(config, input, &vec![7; words], &vec![7; bytes]);
     let expected = serde_qs_reference::parse(input, config.depth as usize, config.form);
     let got = match outcome.number {
-        0 => Ok(tree(&outcome.words, &outcome.text)),
+        refusal::ACCEPTED => Ok(tree(&outcome.words, &outcome.text)),
         number => Err((number, outcome.place as usize)),
     };
     assert_eq!(got, expected, "{config:?} '{}'", input.escape_ascii());
-    outcome.number == 0
+    outcome.number == refusal::ACCEPTED
 }
 
 #[test]
@@ -46,10 +46,7 @@ fn random_inputs() {
     let mut random = Random::new(5);
     let mut counts = [0, 0];
     for _ in 0..200_000 {
-        let config = Config {
-            depth: [0, 1, 2, 3, 5, 64][random.below(6)],
-            form: random.below(2) == 1,
-        };
+        let config = settings(random_config(&mut random));
         let pairs = 1 + random.below(8);
         let input = query(&mut random, pairs);
         counts[usize::from(compare(config, &input))] += 1;
@@ -57,13 +54,8 @@ fn random_inputs() {
     for _ in 0..40 {
         let length = random.below(20_000);
         let input = long_query(&mut random, length);
-        counts[usize::from(compare(
-            Config {
-                depth: 5,
-                form: false,
-            },
-            &input,
-        ))] += 1;
+        let usual = settings(qs::Config::default());
+        counts[usize::from(compare(usual, &input))] += 1;
     }
     println!("{} accepted, {} refused", counts[1], counts[0]);
     assert!(counts[0] > 0 && counts[1] > 0);

@@ -4,10 +4,11 @@
 mod common;
 
 use common::inputs::{long_query, query, BYTES};
-use common::{every_string, reference_is_there, times, tree, Random};
-use qs::{Config, Reading};
-
-const WIDTH: usize = model::WIDTH;
+use common::{
+    every_string, outcome, random_config, reference_is_there, settings, times, tree, Random,
+};
+use qs::row::{self, WIDTH};
+use qs::{refusal, Config};
 
 /// What the buffers hold before a reading.
 const BEFORE: u8 = 7;
@@ -16,34 +17,23 @@ const BEFORE: u8 = 7;
 fn parse(config: Config, input: &[u8], words: usize, bytes: usize) -> model::Outcome {
     let mut words = vec![BEFORE.into(); words];
     let mut text = vec![BEFORE; bytes];
-    let Reading {
-        number,
-        place,
-        records,
-        bytes,
-    } = qs::parse(config, input, &mut words, &mut text);
-    model::Outcome {
-        number,
-        place,
-        records,
-        bytes,
-        words,
-        text,
-    }
+    let reading = qs::parse(config, input, &mut words, &mut text);
+    outcome(reading, words, text)
 }
 
 /// How often each number was answered.
 #[derive(Default)]
-struct Counts([usize; 16]);
+struct Counts([usize; refusal::TOO_LITTLE_TEXT as usize + 1]);
 
 impl Counts {
-    /// With n + 1 records and n text bytes: the crate's tree, or its refusal and place.
+    /// In buffers that always suffice: the crate's tree, or its refusal and place.
     fn with_the_crate(&mut self, config: Config, input: &[u8]) {
-        let outcome = parse(config, input, (input.len() + 1) * WIDTH, input.len());
+        let (words, bytes) = qs::room(input.len());
+        let outcome = parse(config, input, words, bytes);
         self.0[outcome.number as usize] += 1;
         let expected = serde_qs_reference::parse(input, config.depth as usize, config.form);
         let got = match outcome.number {
-            0 => Ok(tree(&outcome.words, &outcome.text)),
+            refusal::ACCEPTED => Ok(tree(&outcome.words, &outcome.text)),
             number => Err((number, outcome.place as usize)),
         };
         assert_eq!(got, expected, "{config:?} '{}'", input.escape_ascii());
@@ -53,12 +43,8 @@ impl Counts {
     fn with_the_model(&mut self, config: Config, input: &[u8], words: usize, bytes: usize) {
         let outcome = parse(config, input, words, bytes);
         self.0[outcome.number as usize] += 1;
-        let settings = model::Config {
-            depth: config.depth,
-            form: config.form,
-        };
         let expected = model::read(
-            settings,
+            settings(config),
             input,
             &vec![BEFORE.into(); words],
             &vec![BEFORE; bytes],
@@ -83,13 +69,6 @@ fn configs() -> impl Iterator<Item = Config> {
     [0, 1, 2, 5]
         .into_iter()
         .flat_map(|depth| [false, true].map(|form| Config { depth, form }))
-}
-
-fn random_config(random: &mut Random) -> Config {
-    Config {
-        depth: [0, 1, 2, 3, 5, 64][random.below(6)],
-        form: random.below(2) == 1,
-    }
 }
 
 #[test]
@@ -122,12 +101,12 @@ fn random_and_damaged_inputs() {
     }
     for _ in 0..times(20) {
         let config = random_config(&mut random);
-        let length = random.below(65_536);
+        let length = random.below(Config::MAX_LEN + 1);
         let input = long_query(&mut random, length);
         counts.with_the_crate(config, &input);
         let pairs = random.below(2_000);
         let input = query(&mut random, pairs);
-        counts.with_the_crate(config, &input[..input.len().min(65_535)]);
+        counts.with_the_crate(config, &input[..input.len().min(Config::MAX_LEN)]);
     }
     counts.report(
         "random and damaged inputs",
@@ -138,9 +117,11 @@ fn random_and_damaged_inputs() {
 #[test]
 fn every_small_buffer() {
     let mut counts = Counts::default();
+    let short = [0, WIDTH - 1, WIDTH, 2 * WIDTH - 1];
+    let sizes = [short, [2, 3, 4, 5].map(|records| records * WIDTH)].concat();
     for config in configs() {
         every_string(b"a0[]&=%", 4, |input| {
-            for words in [0, 7, 8, 15, 16, 24, 32, 40] {
+            for &words in &sizes {
                 for bytes in 0..5 {
                     counts.with_the_model(config, input, words, bytes);
                 }
@@ -164,7 +145,8 @@ fn random_buffers() {
         let words = random.below(18 * WIDTH);
         let bytes = random.below(24);
         counts.with_the_model(config, &input, words, bytes);
-        counts.with_the_model(config, &input, (input.len() + 1) * WIDTH, input.len());
+        let (words, bytes) = qs::room(input.len());
+        counts.with_the_model(config, &input, words, bytes);
     }
     let all: Vec<usize> = (0..16).filter(|number| ![1, 2].contains(number)).collect();
     counts.report("random inputs in random buffers", &all);
@@ -174,16 +156,18 @@ fn random_buffers() {
 fn limits() {
     let mut counts = Counts::default();
     let usual = Config::default();
-    for depth in [0, 5, 63, 64, 65, 66, u32::MAX] {
+    let (deepest, longest) = (Config::MAX_DEPTH, Config::MAX_LEN);
+    for depth in (deepest - 1..=deepest + 2).chain([0, 5, u32::MAX]) {
         for form in [false, true] {
-            counts.with_the_model(Config { depth, form }, b"a[b]=1", 48, 12);
+            counts.with_the_model(Config { depth, form }, b"a[b]=1", 6 * WIDTH, 12);
         }
     }
-    for length in [65_534, 65_535, 65_536, 65_537] {
+    for length in longest - 1..=longest + 2 {
         for piece in [&b"&"[..], b"a", b"a&", b"a[b]=1&", b"%41+", b"[]&"] {
             let input: Vec<u8> = piece.iter().copied().cycle().take(length).collect();
-            counts.with_the_model(usual, &input, (length + 1) * WIDTH, length);
-            counts.with_the_model(usual, &input, 64, 64);
+            let (words, bytes) = qs::room(length);
+            counts.with_the_model(usual, &input, words, bytes);
+            counts.with_the_model(usual, &input, 8 * WIDTH, 64);
         }
     }
     let nested = b"a"
@@ -191,13 +175,9 @@ fn limits() {
         .chain(b"[b]".iter().cycle().take(3 * 70))
         .copied()
         .collect::<Vec<_>>();
-    for depth in [1, 5, 63, 64] {
-        counts.with_the_model(
-            Config { depth, form: false },
-            &nested,
-            (nested.len() + 1) * WIDTH,
-            nested.len(),
-        );
+    let (words, bytes) = qs::room(nested.len());
+    for depth in [1, 5, deepest - 1, deepest] {
+        counts.with_the_model(Config { depth, form: false }, &nested, words, bytes);
     }
     counts.report("both sides of each limit", &[0, 1, 2, 14]);
 }
@@ -206,8 +186,8 @@ fn limits() {
 #[test]
 fn named_cases() {
     let usual = Config::default();
-    let answer = |config, input: &str, words, bytes| {
-        let outcome = parse(config, input.as_bytes(), words, bytes);
+    let answer = |config, input: &str, records: usize, bytes| {
+        let outcome = parse(config, input.as_bytes(), records * WIDTH, bytes);
         (
             outcome.number,
             outcome.place,
@@ -215,26 +195,33 @@ fn named_cases() {
             outcome.bytes,
         )
     };
-    assert_eq!(answer(usual, "&&a", 32, 3), (0, 0, 2, 1));
-    assert_eq!(answer(usual, "ab&%61b", 64, 2), (0, 0, 4, 2));
-    assert_eq!(answer(usual, "a&a", 24, 2), (14, 4, 0, 0));
-    assert_eq!(parse(usual, b"a&a", 32, 2).text, [b'a', 0]);
-    assert_eq!(answer(usual, "a&a", 32, 2), (0, 0, 4, 1));
+    assert_eq!(answer(usual, "&&a", 4, 3), (0, 0, 2, 1));
+    assert_eq!(answer(usual, "ab&%61b", 8, 2), (0, 0, 4, 2));
+    assert_eq!(answer(usual, "a&a", 3, 2), (14, 4, 0, 0));
+    assert_eq!(parse(usual, b"a&a", 4 * WIDTH, 2).text, [b'a', 0]);
+    assert_eq!(answer(usual, "a&a", 4, 2), (0, 0, 4, 1));
     // spare words make no record, and are cleared
-    let spare = parse(usual, b"", 15, 0);
+    let one_and_spare = 2 * WIDTH - 1;
+    let spare = parse(usual, b"", one_and_spare, 0);
     assert_eq!((spare.number, spare.records), (0, 1));
-    assert_eq!(spare.words, [5, 0, 0, 0, 0, 0, 0, 0, 0, 0, 0, 0, 0, 0, 0]);
-    assert_eq!(answer(usual, "a", 15, 1), (14, 2, 0, 0));
-    let few = parse(usual, b"a", 7, 1);
+    let mut root = vec![0; one_and_spare];
+    root[row::KIND] = row::NO_VALUE;
+    assert_eq!(spare.words, root);
+    let spare = parse(usual, b"a", one_and_spare, 1);
+    assert_eq!((spare.number, spare.place), (14, 2));
+    assert_eq!((spare.records, spare.bytes), (0, 0));
+    let few = parse(usual, b"a", WIDTH - 1, 1);
     assert_eq!((few.number, few.place), (3, 0));
-    assert_eq!((few.words, few.text), (vec![7; 7], vec![7]));
-    let longest = "&".repeat(65_535);
-    assert_eq!(answer(usual, &longest, 8, 0), (0, 0, 1, 0));
-    assert_eq!(answer(usual, &(longest + "&"), 8, 0), (2, 0, 0, 0));
+    let untouched = (vec![BEFORE.into(); WIDTH - 1], vec![BEFORE]);
+    assert_eq!((few.words, few.text), untouched);
+    let longest = "&".repeat(Config::MAX_LEN);
+    assert_eq!(answer(usual, &longest, 1, 0), (0, 0, 1, 0));
+    assert_eq!(answer(usual, &(longest + "&"), 1, 0), (2, 0, 0, 0));
     let depth = |depth| Config { depth, form: false };
-    assert_eq!(answer(depth(64), "a", 16, 1), (0, 0, 2, 1));
-    assert_eq!(answer(depth(65), "a", 16, 1), (1, 0, 0, 0));
+    let deepest = Config::MAX_DEPTH;
+    assert_eq!(answer(depth(deepest), "a", 2, 1), (0, 0, 2, 1));
+    assert_eq!(answer(depth(deepest + 1), "a", 2, 1), (1, 0, 0, 0));
     // slips that the starred list alone doesn't catch
-    assert_eq!(answer(usual, "a[b&c=d]=1", 48, 12), (0, 0, 3, 7));
-    assert_eq!(answer(usual, "a=&a=1", 48, 12), (0, 0, 4, 2));
+    assert_eq!(answer(usual, "a[b&c=d]=1", 6, 12), (0, 0, 3, 7));
+    assert_eq!(answer(usual, "a=&a=1", 6, 12), (0, 0, 4, 2));
 }

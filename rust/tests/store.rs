@@ -4,7 +4,8 @@
 #[path = "../examples/store.rs"]
 mod store;
 
-use model::WIDTH;
+use qs::refusal;
+use qs::row::WIDTH;
 use std::path::Path;
 use store::common::reference_is_there;
 
@@ -47,7 +48,7 @@ fn the_reader_gives_the_stored_answers() {
     let file = stored();
     let mut front = Front(&file);
     let cases = front.number();
-    let mut counts = [0; 16];
+    let mut counts = [0; refusal::TOO_LITTLE_TEXT as usize + 1];
     for case in 0..cases {
         counts[replay(&mut front, case)] += 1;
     }
@@ -66,14 +67,16 @@ fn replay(front: &mut Front, case: u32) -> usize {
     let input = front.bytes(length as usize);
     let (words, bytes) = (words as usize, bytes as usize);
     assert!(words <= store::MOST_WORDS && bytes <= store::MOST_BYTES);
-    let before = if number <= 3 && number > 0 { 7 } else { 0 };
+    let untouched = refusal::BEFORE_THE_FIRST_BYTE.contains(&number);
+    let before = if untouched { store::BEFORE } else { 0 };
     let mut expected_words = vec![u32::from(before); words];
     let mut expected_text = vec![before; bytes];
     for word in &mut expected_words[..records as usize * WIDTH] {
         *word = front.number();
     }
     expected_text[..used as usize].copy_from_slice(front.bytes(used as usize));
-    let (mut words_left, mut text_left) = (vec![7; words], vec![7; bytes]);
+    let mut words_left = vec![store::BEFORE.into(); words];
+    let mut text_left = vec![store::BEFORE; bytes];
     let config = qs::Config {
         depth,
         form: form == 1,

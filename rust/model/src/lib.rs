@@ -2,9 +2,11 @@
 //! growing list instead of lent records. It shares nothing with the proved reader, and gives everything that a call answers and leaves.
 
 mod fields;
+pub mod row;
 pub use fields::{list, text, FieldOutcome};
+use row::WIDTH;
 
-/// How a reading is set: `depth` is refused above 64.
+/// How a reading is set: `depth` is refused above [`MAX_DEPTH`].
 #[derive(Clone, Copy, Debug, PartialEq, Eq)]
 pub struct Config {
     pub depth: u32,
@@ -22,11 +24,9 @@ pub struct Outcome {
     pub text: Vec<u8>,
 }
 
-/// The words of a record.
-pub const WIDTH: usize = 8;
-
-const MAX_DEPTH: u32 = 64;
-const MAX_LENGTH: usize = 65_535;
+/// Document 01's limits: how deep brackets may nest, and how many bytes an input may have.
+pub const MAX_DEPTH: u32 = 64;
+pub const MAX_LEN: usize = 65_535;
 
 /// Reads `input` where `words` and `text` are lent, which hold anything before.
 pub fn read(config: Config, input: &[u8], words: &[u32], text: &[u8]) -> Outcome {
@@ -54,7 +54,7 @@ fn accept<'a>(
     if config.depth > MAX_DEPTH {
         return Err(untouched(1));
     }
-    if input.len() > MAX_LENGTH {
+    if input.len() > MAX_LEN {
         return Err(untouched(2));
     }
     if words.len() < WIDTH {
@@ -409,12 +409,12 @@ impl Reader<'_> {
 
     fn accepted(&self, words: usize, bytes: usize) -> Outcome {
         let mut rows = vec![[0; WIDTH]; self.nodes.len()];
-        for (row, node) in rows.iter_mut().zip(&self.nodes) {
-            node.write(row);
+        for (words, node) in rows.iter_mut().zip(&self.nodes) {
+            node.write(words);
         }
         for node in &self.nodes {
             for pair in node.children.windows(2) {
-                rows[pair[0]][7] = pair[1] as u32;
+                rows[pair[0]][row::NEXT] = pair[1] as u32;
             }
         }
         let mut words_left = rows.concat();
@@ -434,26 +434,32 @@ impl Reader<'_> {
 
 impl Node {
     /// All words but that of the next sibling.
-    fn write(&self, row: &mut [u32; WIDTH]) {
-        row[0] = match self.kind {
-            Kind::Uninitialized => 0,
-            Kind::Map => 1,
-            Kind::Sequence => 2,
-            Kind::String { .. } => 3,
-            Kind::Null => 4,
-            Kind::NoValue => 5,
+    fn write(&self, words: &mut [u32; WIDTH]) {
+        words[row::KIND] = match self.kind {
+            Kind::Uninitialized => row::UNINITIALIZED,
+            Kind::Map => row::MAP,
+            Kind::Sequence => row::SEQUENCE,
+            Kind::String { .. } => row::STRING,
+            Kind::Null => row::NULL,
+            Kind::NoValue => row::NO_VALUE,
         };
         match &self.key {
-            None => {}
-            Some((Key::Int(int), _)) => (row[1], row[2]) = (1, *int),
+            None => words[row::KEY_KIND] = row::NO_KEY,
+            Some((Key::Int(int), _)) => {
+                words[row::KEY_KIND] = row::INT_KEY;
+                words[row::KEY] = *int;
+            }
             Some((Key::String(bytes), offset)) => {
-                (row[1], row[2], row[3]) = (2, *offset as u32, bytes.len() as u32)
+                words[row::KEY_KIND] = row::STRING_KEY;
+                words[row::KEY] = *offset as u32;
+                words[row::KEY_LEN] = bytes.len() as u32;
             }
         }
         if let Kind::String { offset, length } = self.kind {
-            (row[4], row[5]) = (offset as u32, length as u32);
+            words[row::TEXT] = offset as u32;
+            words[row::TEXT_LEN] = length as u32;
         }
-        row[6] = self.children.first().map_or(0, |&child| child as u32);
+        words[row::CHILD] = self.children.first().map_or(0, |&child| child as u32);
     }
 }
 

@@ -9,7 +9,8 @@
 //!
 //! Exit status: 0, shown; 1, something was refused, isn't UTF-8 or can't be written; 2, bad usage.
 
-use qs::{Config, DuplicateKeyBehavior::TakeLast, FieldRead};
+use qs::row::{self, part};
+use qs::{refusal, Config, DuplicateKeyBehavior::TakeLast, FieldRead};
 use std::error::Error;
 use std::ffi::OsString;
 use std::io::{self, IsTerminal, Write};
@@ -20,33 +21,6 @@ use std::string::FromUtf8Error;
 const REFUSED: u8 = 1;
 const BAD_USAGE: u8 = 2;
 const USAGE: &str = "usage: layout TICKET [NAME...]\n       layout --segment SEGMENT";
-
-/// What each of document 01's numbers means.
-const MEANINGS: [&str; 23] = [
-    "accepted",
-    "the depth is above 64",
-    "the ticket is longer than 65,535 bytes",
-    "no record was lent",
-    "the ticket ends straight after an open bracket",
-    "the ticket ends before the closing bracket",
-    "`[]` where a map is",
-    "`[]` where a single value is",
-    "a key where a sequence is",
-    "a key where a string is",
-    "a key where an empty value is",
-    "another byte after `]`",
-    "`[` after `[]`",
-    "another byte after `[]`",
-    "too few records were lent",
-    "too little text was lent",
-    "the ticket has no named fields",
-    "there is no such field",
-    "the field is of another kind",
-    "several values for one text",
-    "an index is missing",
-    "the text is not UTF-8",
-    "too few words were lent for the list",
-];
 
 fn main() -> ExitCode {
     let arguments = std::env::args_os().skip(1).map(OsString::into_vec);
@@ -72,17 +46,12 @@ fn bad_usage() -> ExitCode {
 
 type Shown = Result<(), Box<dyn Error>>;
 
-/// Records and text, as much as a ticket can need.
-fn buffers(input: &[u8]) -> (Vec<u32>, Vec<u8>) {
-    (vec![0; 8 * (input.len() + 1)], vec![0; input.len()])
-}
-
 /// What a ticket has at its root.
 fn show_root(input: &[u8]) -> Shown {
-    let (mut records, mut text) = buffers(input);
+    let (mut records, mut text) = qs::buffers(input.len());
     let reading = qs::parse(Config::default(), input, &mut records, &mut text);
-    if reading.number != 0 {
-        return Err(refusal(input, reading.number, reading.place).into());
+    if reading.number != refusal::ACCEPTED {
+        return Err(refused(input, reading.number, reading.place).into());
     }
     let mut out = io::stdout().lock();
     let (count, bytes) = (reading.records, reading.bytes);
@@ -90,44 +59,45 @@ fn show_root(input: &[u8]) -> Shown {
         out,
         "accepted: records used {count}, bytes of text used {bytes}"
     )?;
-    let record = |number: u32| &records[8 * number as usize..][..8];
-    if record(0)[0] == STRING {
+    let root = row::record(&records, 0);
+    if root[row::KIND] == row::STRING {
         // The root is the field of the empty name.
-        writeln!(out, "\"\": {}", value(record(0), &text))?;
+        writeln!(out, "\"\": {}", value(root, &text))?;
     }
-    let mut next = record(0)[6];
+    let mut next = root[row::CHILD];
     while next != 0 {
-        let child = record(next);
-        let key = match child[1..4] {
-            [2, offset, length] => quoted(part(&text, offset, length)),
-            [1, int, _] => format!("{int}, a number and no name"),
-            _ => "an element without a name".to_owned(),
-        };
-        writeln!(out, "{key}: {}", value(child, &text))?;
-        next = child[7];
+        let child = row::record(&records, next);
+        writeln!(out, "{}: {}", key(child, &text), value(child, &text))?;
+        next = child[row::NEXT];
     }
     out.flush()?;
     Ok(())
 }
 
-/// The first word of a String's record.
-const STRING: u32 = 3;
+/// A record's key.
+fn key(record: &[u32], text: &[u8]) -> String {
+    match record[row::KEY_KIND] {
+        row::STRING_KEY => quoted(part(text, record[row::KEY], record[row::KEY_LEN])),
+        row::INT_KEY => format!("{}, a number and no name", record[row::KEY]),
+        _ => "an element without a name".to_owned(),
+    }
+}
 
 /// A record's kind, and a String's bytes.
 fn value(record: &[u32], text: &[u8]) -> String {
-    const KINDS: [&str; 6] = [
-        "uninitialized",
-        "map",
-        "sequence",
-        "string",
-        "null",
-        "no value",
-    ];
-    let kind = KINDS[record[0] as usize];
-    match record[0] {
-        STRING => format!("{kind} {}", quoted(part(text, record[4], record[5]))),
-        _ => kind.to_owned(),
-    }
+    let kind = match record[row::KIND] {
+        row::UNINITIALIZED => "uninitialized",
+        row::MAP => "map",
+        row::SEQUENCE => "sequence",
+        row::STRING => {
+            let bytes = part(text, record[row::TEXT], record[row::TEXT_LEN]);
+            return format!("string {}", quoted(bytes));
+        }
+        row::NULL => "null",
+        row::NO_VALUE => "no value",
+        other => unreachable!("no value is of kind {other}"),
+    };
+    kind.to_owned()
 }
 
 /// The fields, one after another. One that can't be read doesn't keep the others from being shown.
@@ -156,12 +126,14 @@ enum Unread {
 
 /// Reads a field, as a text and as a list; it gives what [`lines`] makes of them.
 fn field_of(input: &[u8], name: &[u8]) -> Result<String, Unread> {
-    let (mut records, mut text) = buffers(input);
+    let (mut records, mut text) = qs::buffers(input.len());
     let mut list = vec![0; 2 * (input.len() + 1)];
     let config = Config::default();
     let one = qs::text(config, TakeLast, input, name, &mut records, &mut text);
-    if (1..16).contains(&one.number) {
-        return Err(Unread::Input(refusal(input, one.number, one.place)));
+    let reading = one.reading;
+    if refusal::OF_A_READING.contains(&reading.number) {
+        let why = refused(input, reading.number, reading.place);
+        return Err(Unread::Input(why));
     }
     let all = qs::list(
         config,
@@ -173,24 +145,27 @@ fn field_of(input: &[u8], name: &[u8]) -> Result<String, Unread> {
         &mut list,
     );
     let name = quoted(name);
-    match (one.number, all.number) {
-        (0, _) | (_, 0) => Ok(lines(&name, &text, one, all, &list)),
+    match (one.reading.number, all.reading.number) {
+        (refusal::ACCEPTED, _) | (_, refusal::ACCEPTED) => Ok(lines(&name, &text, one, all, &list)),
         // What is wrong with a list says more than that it is no text.
-        (18, number) | (number, _) => Err(Unread::Field(format!("{name}: {}", meaning(number)))),
+        (refusal::WRONG_KIND, number) | (number, _) => {
+            Err(Unread::Field(format!("{name}: {}", meaning(number))))
+        }
     }
 }
 
 /// A field's lines: its text where it has one, and its elements where they are more than that one text.
 fn lines(name: &str, text: &[u8], one: FieldRead, all: FieldRead, list: &[u32]) -> String {
     let mut lines = String::new();
-    if one.number == 0 {
+    let (one_number, all_number) = (one.reading.number, all.reading.number);
+    if one_number == refusal::ACCEPTED {
         let bytes = part(text, one.offset, one.length);
         lines += &format!("{name} = {}\n", quoted(bytes));
     }
-    if all.number != 0 {
-        lines += &format!("{name} as a list: {}\n", meaning(all.number));
+    if all_number != refusal::ACCEPTED {
+        lines += &format!("{name} as a list: {}\n", meaning(all_number));
     }
-    if one.number != 0 || all.length != 1 {
+    if one_number != refusal::ACCEPTED || all.length != 1 {
         let elements = list.chunks_exact(2).take(all.length as usize);
         for (index, words) in elements.enumerate() {
             let bytes = part(text, words[0], words[1]);
@@ -200,12 +175,9 @@ fn lines(name: &str, text: &[u8], one: FieldRead, all: FieldRead, list: &[u32]) 
     lines
 }
 
+/// What a number means, and the number.
 fn meaning(number: u32) -> String {
-    format!("{} ({number})", MEANINGS[number as usize])
-}
-
-fn part(text: &[u8], offset: u32, length: u32) -> &[u8] {
-    &text[offset as usize..][..length as usize]
+    format!("{} ({number})", refusal::meaning(number))
 }
 
 /// Bytes in quotes, as text where they are UTF-8.
@@ -217,7 +189,7 @@ fn quoted(bytes: &[u8]) -> String {
 }
 
 /// Why a ticket is refused, and the part around the byte that was taken last, marked.
-fn refusal(input: &[u8], number: u32, place: u32) -> String {
+fn refused(input: &[u8], number: u32, place: u32) -> String {
     let why = format!("refused: {}", meaning(number));
     let Some(last) = (place as usize).checked_sub(1) else {
         return why;
@@ -284,7 +256,7 @@ fn spelled_out(text: &str) -> String {
 
 #[cfg(test)]
 mod tests {
-    use super::{quoted, refusal, spelled_out};
+    use super::{quoted, refused, spelled_out};
 
     #[test]
     fn a_terminal_gets_no_control_characters() {
@@ -302,13 +274,13 @@ mod tests {
 
     #[test]
     fn a_refusal_is_marked_at_its_place() {
-        assert!(refusal(b"a\x1b[][b]=1", 12, 5).ends_with("\n  a\\x1b[][b]=1\n         ^"));
-        assert!(refusal(b"a[", 4, 3).ends_with("\n  a[\n    ^"));
+        assert!(refused(b"a\x1b[][b]=1", 12, 5).ends_with("\n  a\\x1b[][b]=1\n         ^"));
+        assert!(refused(b"a[", 4, 3).ends_with("\n  a[\n    ^"));
         let long = [b'a'; 1_000];
         let cut = "a".repeat(40);
-        assert!(refusal(&long, 5, 1_001).ends_with(&format!("\n  ...{cut}\n  {:43}^", "")));
-        assert!(refusal(&long, 5, 3).contains("\n  aaa"));
-        assert!(refusal(&long, 5, 3).ends_with("aaa...\n    ^"));
-        assert!(!refusal(&long, 2, 0).contains('\n'));
+        assert!(refused(&long, 5, 1_001).ends_with(&format!("\n  ...{cut}\n  {:43}^", "")));
+        assert!(refused(&long, 5, 3).contains("\n  aaa"));
+        assert!(refused(&long, 5, 3).ends_with("aaa...\n    ^"));
+        assert!(!refused(&long, 2, 0).contains('\n'));
     }
 }

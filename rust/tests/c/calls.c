@@ -1,4 +1,7 @@
-/* Calls each export through include/qs.h, and checks its answers and what it leaves. */
+/*
+ * Calls each export through include/qs.h, and checks its answers and what it leaves. The numbers of the Rust side, RUST_..., are
+ * defined on the compiler's command line (tests/c.rs).
+ */
 #include "qs.h"
 
 #include <stdio.h>
@@ -20,10 +23,16 @@ static void check(int holds, const char *what, int line) {
 /* A string literal as a slice: a pointer and a count. */
 #define SLICE(literal) (const uint8_t *)(literal), sizeof(literal) - 1
 
+/* How many elements an array has. */
+#define COUNT(array) (sizeof(array) / sizeof *(array))
+
 /* The buffers, filled with something other than zero before each call. */
-static uint32_t words[64];
+static uint32_t words[8 * QS_RECORD_WORDS];
 static uint8_t text[16];
 static uint32_t list[6];
+
+/* Records and text as two slices. */
+#define LENT words, COUNT(words), text, sizeof text
 
 static void fill(void) {
     memset(words, 7, sizeof words);
@@ -56,21 +65,30 @@ static void utf8(void) {
     CHECK(qs_utf8(NULL, 0) == 1);
 }
 
+/* The header's numbers are those of the Rust side. */
+static void numbers(void) {
+    CHECK(QS_RECORD_WORDS == RUST_RECORD_WORDS);
+    CHECK(QS_MAX_DEPTH == RUST_MAX_DEPTH);
+    CHECK(QS_MAX_INPUT == RUST_MAX_INPUT);
+    CHECK(sizeof(struct qs_reading) == RUST_READING_SIZE);
+    CHECK(sizeof(struct qs_field_read) == RUST_FIELD_READ_SIZE);
+}
+
 static void parse(void) {
-    static const uint32_t records[16] = {1, 0, 0, 0, 0, 0, 1, 0, 3, 2, 0, 1, 1, 1, 0, 0};
+    static const uint32_t records[2][QS_RECORD_WORDS] = {{1, 0, 0, 0, 0, 0, 1, 0}, {3, 2, 0, 1, 1, 1, 0, 0}};
     struct qs_reading reading;
     fill();
-    reading = qs_parse(5, 0, SLICE("a=1"), words, 64, text, sizeof text);
+    reading = qs_parse(5, 0, SLICE("a=1"), LENT);
     CHECK(reading.number == 0 && reading.place == 0 && reading.records == 2 && reading.bytes == 2);
     CHECK(memcmp(words, records, sizeof records) == 0);
-    CHECK(all(words + 16, sizeof words - sizeof records, 0));
+    CHECK(all(words + 2 * QS_RECORD_WORDS, sizeof words - sizeof records, 0));
     CHECK(memcmp(text, "a1", 2) == 0 && all(text + 2, sizeof text - 2, 0));
     fill();
-    reading = qs_parse(5, 1, SLICE("a%5B"), words, 64, text, sizeof text);
+    reading = qs_parse(5, 1, SLICE("a%5B"), LENT);
     CHECK(reading.number == 4 && reading.place == 5 && reading.records == 0 && reading.bytes == 0);
     CHECK(all(words, sizeof words, 0) && all(text, sizeof text, 0));
     fill();
-    reading = qs_parse(QS_MAX_DEPTH + 1, 0, SLICE("a"), words, 64, text, sizeof text);
+    reading = qs_parse(QS_MAX_DEPTH + 1, 0, SLICE("a"), LENT);
     CHECK(reading.number == 1 && all(words, sizeof words, 7) && all(text, sizeof text, 7));
     reading = qs_parse(5, 0, SLICE("a"), words, QS_RECORD_WORDS - 1, text, sizeof text);
     CHECK(reading.number == 3 && all(words, sizeof words, 7) && all(text, sizeof text, 7));
@@ -79,18 +97,18 @@ static void parse(void) {
 static void read_text(void) {
     struct qs_field_read read;
     fill();
-    read = qs_text(5, 0, 0, SLICE("w=fog&w=dew"), SLICE("w"), words, 64, text, sizeof text);
+    read = qs_text(5, 0, 0, SLICE("w=fog&w=dew"), SLICE("w"), LENT);
     CHECK(read.number == 0 && read.place == 0 && read.records == 4 && read.bytes == 7);
     CHECK(read.offset == 4 && read.length == 3 && memcmp(text, "wfogdew", 8) == 0);
-    read = qs_text(5, 0, 1, SLICE("w=fog&w=dew"), SLICE("w"), words, 64, text, sizeof text);
+    read = qs_text(5, 0, 1, SLICE("w=fog&w=dew"), SLICE("w"), LENT);
     CHECK(read.number == 19 && read.records == 4 && read.bytes == 7 && read.offset == 0 && read.length == 0);
-    read = qs_text(5, 0, UINT32_MAX, SLICE("w=fog&w=dew"), SLICE("w"), words, 64, text, sizeof text);
+    read = qs_text(5, 0, UINT32_MAX, SLICE("w=fog&w=dew"), SLICE("w"), LENT);
     CHECK(read.number == 19);
-    read = qs_text(5, 0, 0, SLICE("1=x"), SLICE("1"), words, 64, text, sizeof text);
+    read = qs_text(5, 0, 0, SLICE("1=x"), SLICE("1"), LENT);
     CHECK(read.number == 17 && read.place == 0 && read.records == 2 && read.bytes == 1);
-    read = qs_text(5, 0, 0, SLICE("=x"), NULL, 0, words, 64, text, sizeof text);
+    read = qs_text(5, 0, 0, SLICE("=x"), NULL, 0, LENT);
     CHECK(read.number == 0 && read.offset == 0 && read.length == 1);
-    read = qs_text(5, 0, 0, SLICE("a["), SLICE("a"), words, 64, text, sizeof text);
+    read = qs_text(5, 0, 0, SLICE("a["), SLICE("a"), LENT);
     CHECK(read.number == 4 && read.place == 3 && read.records == 0 && read.bytes == 0);
 }
 
@@ -98,21 +116,22 @@ static void read_list(void) {
     static const uint32_t parts[6] = {1, 2, 3, 1, 0, 0};
     struct qs_field_read read;
     fill();
-    read = qs_list(5, 0, 0, SLICE("h[]=10&h[]=9"), SLICE("h"), words, 64, text, sizeof text, list, 6);
+    read = qs_list(5, 0, 0, SLICE("h[]=10&h[]=9"), SLICE("h"), LENT, list, COUNT(list));
     CHECK(read.number == 0 && read.records == 4 && read.bytes == 4 && read.offset == 0 && read.length == 2);
     CHECK(memcmp(list, parts, sizeof parts) == 0 && memcmp(text, "h109", 5) == 0);
     fill();
-    read = qs_list(5, 0, 0, SLICE("h[]=10&h[]=9"), SLICE("h"), words, 64, text, sizeof text, list, 3);
+    read = qs_list(5, 0, 0, SLICE("h[]=10&h[]=9"), SLICE("h"), LENT, list, 3);
     CHECK(read.number == 22 && read.records == 4 && read.bytes == 4 && read.length == 0);
     CHECK(all(list, 3 * sizeof *list, 0) && all(list + 3, 3 * sizeof *list, 7));
     fill();
-    read = qs_list(QS_MAX_DEPTH + 1, 0, 0, SLICE("h"), SLICE("h"), words, 64, text, sizeof text, list, 6);
+    read = qs_list(QS_MAX_DEPTH + 1, 0, 0, SLICE("h"), SLICE("h"), LENT, list, COUNT(list));
     CHECK(read.number == 1 && all(list, sizeof list, 7));
-    read = qs_list(5, 0, 2, SLICE("h[0]=1&h[0]=2"), SLICE("h"), words, 64, text, sizeof text, list, 6);
+    read = qs_list(5, 0, 2, SLICE("h[0]=1&h[0]=2"), SLICE("h"), LENT, list, COUNT(list));
     CHECK(read.number == 19 && read.length == 0 && all(list, sizeof list, 0));
 }
 
 int main(void) {
+    numbers();
     decode();
     utf8();
     parse();

@@ -6,6 +6,7 @@ pub mod programs;
 pub mod rows;
 pub mod whatwg;
 
+use qs::row;
 use std::io::Write;
 
 /// A byte of each kind that decoding tells apart: both marks, a digit, a hex letter of either case,
@@ -108,40 +109,73 @@ pub fn tree(words: &[u32], text: &[u8]) -> serde_qs_reference::Tree {
 }
 
 fn tree_at(words: &[u32], text: &[u8], number: u32) -> serde_qs_reference::Tree {
-    use serde_qs_reference::{Key, Tree};
-    let record = |number: u32| &words[number as usize * 8..][..8];
-    let part = |offset: u32, length: u32| text[offset as usize..][..length as usize].to_vec();
-    let children = || {
-        let mut numbers = Vec::new();
-        let mut next = record(number)[6];
-        while next != 0 {
-            numbers.push(next);
-            next = record(next)[7];
+    use serde_qs_reference::Tree;
+    let record = row::record(words, number);
+    let below = |child| tree_at(words, text, child);
+    match record[row::KIND] {
+        row::UNINITIALIZED => Tree::Uninitialized,
+        row::MAP => Tree::Map(
+            children(words, record)
+                .map(|child| (key_at(words, text, child), below(child)))
+                .collect(),
+        ),
+        row::SEQUENCE => Tree::Sequence(children(words, record).map(below).collect()),
+        row::STRING => {
+            Tree::String(row::part(text, record[row::TEXT], record[row::TEXT_LEN]).to_vec())
         }
-        numbers
-    };
-    let key = |number: u32| match record(number)[1..4] {
-        [1, int, 0] => Key::Int(int),
-        [2, offset, length] => Key::String(part(offset, length)),
-        _ => panic!("record {number} has no key"),
-    };
-    match record(number)[0] {
-        0 => Tree::Uninitialized,
-        1 => Tree::Map(
-            children()
-                .into_iter()
-                .map(|child| (key(child), tree_at(words, text, child)))
-                .collect(),
-        ),
-        2 => Tree::Sequence(
-            children()
-                .into_iter()
-                .map(|child| tree_at(words, text, child))
-                .collect(),
-        ),
-        3 => Tree::String(part(record(number)[4], record(number)[5])),
-        4 => Tree::Null,
-        5 => Tree::NoValue,
+        row::NULL => Tree::Null,
+        row::NO_VALUE => Tree::NoValue,
         kind => panic!("record {number} has kind {kind}"),
+    }
+}
+
+/// The numbers of a record's children, in their order.
+fn children<'a>(words: &'a [u32], record: &[u32]) -> impl Iterator<Item = u32> + 'a {
+    let some = |number: u32| (number != 0).then_some(number);
+    std::iter::successors(some(record[row::CHILD]), move |&child| {
+        some(row::record(words, child)[row::NEXT])
+    })
+}
+
+fn key_at(words: &[u32], text: &[u8], number: u32) -> serde_qs_reference::Key {
+    use serde_qs_reference::Key;
+    let record = row::record(words, number);
+    let (key, length) = (record[row::KEY], record[row::KEY_LEN]);
+    match record[row::KEY_KIND] {
+        row::INT_KEY if length == 0 => Key::Int(key),
+        row::STRING_KEY => Key::String(row::part(text, key, length).to_vec()),
+        _ => panic!("record {number} has no key"),
+    }
+}
+
+/// Any of some settings, shallow ones and the deepest.
+pub fn random_config(random: &mut Random) -> qs::Config {
+    qs::Config {
+        depth: [0, 1, 2, 3, 5, qs::Config::MAX_DEPTH][random.below(6)],
+        form: random.below(2) == 1,
+    }
+}
+
+/// Settings for the model.
+pub fn settings(config: qs::Config) -> model::Config {
+    let qs::Config { depth, form } = config;
+    model::Config { depth, form }
+}
+
+/// What a reading of the library answered and left, as the model has it.
+pub fn outcome(reading: qs::Reading, words: Vec<u32>, text: Vec<u8>) -> model::Outcome {
+    let qs::Reading {
+        number,
+        place,
+        records,
+        bytes,
+    } = reading;
+    model::Outcome {
+        number,
+        place,
+        records,
+        bytes,
+        words,
+        text,
     }
 }

@@ -5,6 +5,10 @@ use std::io::Write as _;
 use std::path::{Path, PathBuf};
 use std::process::{Command, Stdio};
 
+/// What the listing program lends: records, and bytes of text.
+pub const LIST_RECORDS: usize = 2_000;
+pub const LIST_BYTES: usize = qs::Config::MAX_LEN;
+
 /// A program by its name, which `rt ci` and `rt check NAME` build. Where it is missing, the calling test is left out.
 pub fn built(name: &str) -> Option<PathBuf> {
     let path = Path::new(env!("CARGO_MANIFEST_DIR")).join(format!("../target/bin/{name}"));

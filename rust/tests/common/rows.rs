@@ -2,7 +2,7 @@
 //! here; a reading is a list of leaves, each a path of keys with the value that stands there, and what clashes shows in the paths.
 
 use super::whatwg::{decoded, failed_escapes, split, stretches};
-use qs::Config;
+use qs::{refusal, Config};
 use serde_qs_reference::{Key, Tree};
 use std::cmp::Ordering;
 use std::ops::Range;
@@ -74,9 +74,9 @@ pub fn expected(config: Config, input: &[u8]) -> Expected {
 /// Brackets that aren't closed are refused, so is another byte after them, and so is a value that can't be both.
 fn row_of(number: u32) -> Row {
     match number {
-        4 | 5 => Row::NotClosed,
-        6..=10 => Row::NotBoth,
-        11..=13 => Row::ByteAfter,
+        refusal::END_AFTER_OPENING..=refusal::END_BEFORE_CLOSING => Row::NotClosed,
+        refusal::SEQUENCE_ON_MAP..=refusal::MAP_ON_NULL => Row::NotBoth,
+        refusal::BYTE_AFTER_KEY..=refusal::BYTE_AFTER_BRACKETS => Row::ByteAfter,
         _ => panic!("no row refuses by {number}"),
     }
 }
@@ -121,7 +121,7 @@ impl Reading {
     fn whole_pair<'a>(&mut self, first: &[u8], rest: &mut impl Iterator<Item = &'a [u8]>) -> Pair {
         let mut text = first.to_vec();
         let mut pair = self.pair(&text);
-        while matches!(pair.value, Err(4 | 5)) {
+        while let Err(refusal::END_AFTER_OPENING | refusal::END_BEFORE_CLOSING) = pair.value {
             let Some(next) = rest.next() else { break };
             text.push(b'&');
             text.extend_from_slice(next);
@@ -151,7 +151,7 @@ impl Reading {
         let opening = self.starts(text, b'[').expect("a bracket opens here");
         let inside = &text[opening..];
         if inside.is_empty() {
-            return refused(path, Wants::Nothing, 4);
+            return refused(path, Wants::Nothing, refusal::END_AFTER_OPENING);
         }
         let at_depth = level == self.config.depth;
         if at_depth {
@@ -164,7 +164,7 @@ impl Reading {
             return self.at_depth(path, text, opening);
         }
         let Some(closing) = self.find(inside, b']') else {
-            return refused(path, Wants::Map, 5);
+            return refused(path, Wants::Map, refusal::END_BEFORE_CLOSING);
         };
         path.push(self.key_in_brackets(&inside[..closing.start]));
         self.work(Row::Nested);
@@ -175,7 +175,7 @@ impl Reading {
         Pair {
             path,
             wants: Wants::Nothing,
-            value: self.end(after, 11),
+            value: self.end(after, refusal::BYTE_AFTER_KEY),
         }
     }
 
@@ -183,8 +183,8 @@ impl Reading {
     fn element(&mut self, path: Vec<Key>, after: &[u8]) -> Pair {
         self.work(Row::EmptyBrackets);
         let value = match self.starts(after, b'[') {
-            Some(_) => Err(12),
-            None => self.end(after, 13),
+            Some(_) => Err(refusal::OPENING_AFTER_BRACKETS),
+            None => self.end(after, refusal::BYTE_AFTER_BRACKETS),
         };
         Pair {
             path,
@@ -328,17 +328,17 @@ impl Reading {
     fn want_map(&self, path: &[Key]) -> Result<(), u32> {
         match self.held(path) {
             None => Ok(()),
-            Some(Tree::Sequence(_)) => Err(8),
-            Some(Tree::String(_)) => Err(9),
-            Some(_) => Err(10),
+            Some(Tree::Sequence(_)) => Err(refusal::MAP_ON_SEQUENCE),
+            Some(Tree::String(_)) => Err(refusal::MAP_ON_STRING),
+            Some(_) => Err(refusal::MAP_ON_NULL),
         }
     }
 
     fn want_sequence(&self, path: &[Key]) -> Result<(), u32> {
         match self.held(path) {
-            _ if self.is_map(path) => Err(6),
+            _ if self.is_map(path) => Err(refusal::SEQUENCE_ON_MAP),
             None | Some(Tree::Sequence(_)) => Ok(()),
-            Some(_) => Err(7),
+            Some(_) => Err(refusal::SEQUENCE_ON_SINGLE),
         }
     }
 
