@@ -1,7 +1,7 @@
 use native.Mathlib.Omega.{arith}
-use Rattle.listing.proofs.Pages.{puts-then}
-use Rattle.listing.proofs.numbers.write_number.Statement.{statement}
-use Rattle.listing.proofs.numbers.write_number.Tie as tie
+use Rattle.output.proofs.Pages.{puts-then}
+use Rattle.output.proofs.numbers.write_number.Statement.{statement}
+use Rattle.output.proofs.numbers.write_number.Tie as tie
 
 write-bytes-requires : tie.Need-write-bytes-requires
 write-bytes-requires c κs = tt

@@ -1,7 +1,7 @@
 use native.Mathlib.Omega.{arith}
 use borrow.Author.Tests.{lt-ltb, le-ltb}
-use Rattle.listing.proofs.numbers.hex_digit.Statement.{statement}
-use Rattle.listing.proofs.numbers.hex_digit.Tie as tie
+use Rattle.output.proofs.numbers.hex_digit.Statement.{statement}
+use Rattle.output.proofs.numbers.hex_digit.Tie as tie
 
 add-result : tie.Need-add-result
 add-result c = omega arith

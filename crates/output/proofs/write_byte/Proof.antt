@@ -1,8 +1,8 @@
 use native.Mathlib.Omega.{arith}
-use Rattle.listing.proofs.Pages.{byte-fits, byte-cut}
+use Rattle.output.proofs.Pages.{byte-fits, byte-cut}
 use borrow.Author.Needs.{needs}
-use Rattle.listing.proofs.output.write_byte.Statement.{statement}
-use Rattle.listing.proofs.output.write_byte.Tie as tie
+use Rattle.output.proofs.write_byte.Statement.{statement}
+use Rattle.output.proofs.write_byte.Tie as tie
 
 slice-write-out : tie.Need-slice-write-out
 slice-write-out c = omega arith

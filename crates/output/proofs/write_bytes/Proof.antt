@@ -1,10 +1,10 @@
 use Rattle.laws.proofs.Lists.{drop-1}
-use Rattle.listing.proofs.Pages.{Putting, putting-start, putting-more, putting-done}
+use Rattle.output.proofs.Pages.{Putting, putting-start, putting-more, putting-done}
 use Prim.Native.Nat.{_-_}
 use lib.ListN.{length, drop, drop-of-length-le}
 use native.Mathlib.Omega.{arith}
-use Rattle.listing.proofs.output.write_bytes.Statement.{statement}
-use Rattle.listing.proofs.output.write_bytes.Tie as tie
+use Rattle.output.proofs.write_bytes.Statement.{statement}
+use Rattle.output.proofs.write_bytes.Tie as tie
 
 abbrev Inv-loop : tie.InvT-loop
 Inv-loop bytes out₀ at next₀ i₀ out next i = Putting (drop i bytes) bytes out₀ out at next

@@ -1,12 +1,12 @@
-use Rattle.listing.proofs.Digits.{hex-more, hex-done}
-use Rattle.listing.proofs.Pages.{Putting, putting-start, putting-more, puts-then, putting-done}
+use Rattle.output.proofs.Digits.{hex-more, hex-done}
+use Rattle.output.proofs.Pages.{Putting, putting-start, putting-more, puts-then, putting-done}
 use mathlib.Core.Path.{_∙_}
 use Prim.Native.Nat.{_-_}
 use lib.ListN.{length, drop}
 use native.Mathlib.Omega.{arith}
-use Rattle.listing.specs.Numbers.{hex}
-use Rattle.listing.proofs.numbers.write_hex.Statement.{statement}
-use Rattle.listing.proofs.numbers.write_hex.Tie as tie
+use Rattle.output.specs.Numbers.{hex}
+use Rattle.output.proofs.numbers.write_hex.Statement.{statement}
+use Rattle.output.proofs.numbers.write_hex.Tie as tie
 
 abbrev Inv-loop : tie.InvT-loop
 Inv-loop bytes out₀ at next₀ i₀ out next i = Putting (hex (drop i bytes)) (hex bytes) out₀ out at next

@@ -1,14 +1,14 @@
-use Rattle.listing.proofs.Digits.{puts-digit, puts-digits}
+use Rattle.output.proofs.Digits.{puts-digit, puts-digits}
 use native.Mathlib.Omega.{arith}
 use Prim.Native.Nat.{ℕ, _<_}
 use borrow.Fn.Kinds.{In}
 use borrow.Fn.PlainCycle.{Measures, is, falls, and}
-use Rattle.listing.proofs.numbers.write_decimal.Reads as write-decimal
-use Rattle.listing.proofs.numbers.write_decimal.Kinds as write-decimal-kinds
-use Rattle.listing.proofs.numbers.+write_decimal.Lts-write_decimal as write-decimal-lts
-use Rattle.listing.proofs.output.write_byte.Reads as write-byte-reads
-use Rattle.listing.proofs.numbers.+write_decimal.{statement}
-use Rattle.listing.proofs.numbers.+write_decimal.Tie.{close}
+use Rattle.output.proofs.numbers.write_decimal.Reads as write-decimal
+use Rattle.output.proofs.numbers.write_decimal.Kinds as write-decimal-kinds
+use Rattle.output.proofs.numbers.+write_decimal.Lts-write_decimal as write-decimal-lts
+use Rattle.output.proofs.write_byte.Reads as write-byte-reads
+use Rattle.output.proofs.numbers.+write_decimal.{statement}
+use Rattle.output.proofs.numbers.+write_decimal.Tie.{close}
 
 abbrev μ-write-decimal : Measures 1 write-decimal-kinds.ps ℕ
 μ-write-decimal κs a = a .0

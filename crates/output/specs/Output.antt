@@ -5,20 +5,20 @@ use mathlib.Core.Bool.{cond}
 use mathlib.Core.List.{List, [], _∷_, _++_}
 use lib.Dec.{leb, ltb}
 use lib.ListN.{length, take, drop, set}
-use Rattle.listing.specs.declared.Listed.{Listed}
-use Rattle.listing.specs.declared.Listed.the-variants.{Whole, Cut}
+use Rattle.output.specs.declared.Written.{Written}
+use Rattle.output.specs.declared.Written.the-variants.{Whole, Cut}
 
--- What `list` leaves of an output that it fills with these bytes: as many of them as it holds, and the further elements as they were.
+-- An output that is filled with these bytes from its start on: as many of them as it holds, and the further elements as they were.
 abbrev pub filled : List ℕ → List ℕ → List ℕ
 filled bytes out = take (length out) bytes ++ drop (length bytes) out
 
 -- So many bytes in an output of a size: all of them, or that they were cut.
-abbrev pub answerAt : ℕ → ℕ → Listed
+abbrev pub answerAt : ℕ → ℕ → Written
 answerAt end size = cond (leb end size) (Whole end) Cut
 
--- What `list` answers of these bytes.
-abbrev pub answer : List ℕ → List ℕ → Listed
-answer bytes out = answerAt (length bytes) (length out)
+-- What is answered of an output that is filled with these bytes.
+abbrev pub answerFor : List ℕ → List ℕ → Written
+answerFor bytes out = answerAt (length bytes) (length out)
 
 -- The output and the place of the next byte. Where a byte was cut the place is the length and one more.
 pub record Page : Type 0 where

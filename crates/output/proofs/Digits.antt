@@ -9,11 +9,11 @@ use lib.Dec.{ltb}
 use lib.ListN.{length, drop, getD, drop-of-length-le}
 use Rattle.laws.proofs.Cases.{below}
 use Rattle.laws.proofs.Lists.{drop-1}
-use Rattle.key.specs.Keys.{isDigit, allDigits, valueFrom}
-use Rattle.listing.specs.Numbers.{decimalIn, decimal, hexDigit, hex}
-use Rattle.listing.specs.Decimals.{DecimalOf, Decimals}
-use Rattle.listing.specs.Output.{Page, Puts}
-use Rattle.listing.proofs.Pages.{puts-then, puts-same}
+use Rattle.ascii.specs.Digits.{isDigit, allDigits, valueFrom}
+use Rattle.output.specs.Numbers.{decimalIn, decimal, hexDigit, hex}
+use Rattle.output.specs.Decimals.{DecimalOf, Decimals}
+use Rattle.output.specs.Output.{Page, Puts}
+use Rattle.output.proofs.Pages.{puts-then, puts-same}
 
 pub hex-more : (s : List ℕ) (i : ℕ) {h l : ℕ} → i < length s → h ≡ hexDigit (getD s i 0 / 16) → l ≡ hexDigit (getD s i 0 % 16)
     → hex (drop i s) ≡ h ∷ l ∷ hex (drop (i + 1) s)

@@ -10,8 +10,8 @@ use lib.Dec.{leb}
 use lib.ListN.{length, take, drop, set, length-set, take-append-drop, drop-of-length-le}
 use lib.Seq.{take-nil, take-all, take-suc-set, drop-set-lt}
 use Rattle.laws.proofs.Cases.{below}
-use Rattle.listing.specs.declared.Listed.the-variants.{Whole, Cut}
-use Rattle.listing.specs.Output.{answerAt, filled, answer, page, putByte, put, Puts}
+use Rattle.output.specs.declared.Written.the-variants.{Whole, Cut}
+use Rattle.output.specs.Output.{answerAt, filled, answerFor, page, putByte, put, Puts}
 
 -- The output from a place on, and the place after the bytes.
 abbrev from : List ℕ → List ℕ → ℕ → List ℕ
@@ -70,19 +70,19 @@ module _ (bytes out out′ : List ℕ) (end : ℕ) (p : Puts bytes (page out 0) 
   ends : end ≡ place (length bytes) (length out)
   ends = ap (λ q. q .at) whole
 
-  all-fit : end ≤ length out → Whole end ≡ answer bytes out
+  all-fit : end ≤ length out → Whole end ≡ answerFor bytes out
   all-fit h =
       below (length out) (length bytes)
       (λ g. let e : end ≡ length out + 1 = ends ∙ rw (lt-leb (length bytes) (length out) g) in absurd (omega arith))
       (λ g. rw (ends, le-leb (length bytes) (length out) g))
 
-  some-cut : length out < end → Cut ≡ answer bytes out
+  some-cut : length out < end → Cut ≡ answerFor bytes out
   some-cut h =
       below (length out) (length bytes)
       (λ g. rw (lt-leb (length bytes) (length out) g))
       (λ g. let e : end ≡ length bytes = ends ∙ rw (le-leb (length bytes) (length out) g) in absurd (omega arith))
 
   -- The place after the last byte tells the answer. The size is that of the output after the writing.
-  pub answered : (size : ℕ) → size ≡ length out → answerAt end size ≡ answer bytes out
+  pub answered : (size : ℕ) → size ≡ length out → answerAt end size ≡ answerFor bytes out
   answered size e =
       rw e (below (length out) end (λ g. rw (lt-leb end (length out) g) (some-cut g)) (λ g. rw (le-leb end (length out) g) (all-fit g)))

@@ -4,7 +4,7 @@ use mathlib.Core.List.{List, [], _∷_, _++_}
 use Prim.Native.Nat.{ℕ, _+_, _≤_, _<_}
 use borrow.Author.Tests.{lt-ltb, le-ltb}
 use lib.ListN.{length, set}
-use Rattle.listing.specs.Output.{Page, page, putByte, put, Puts}
+use Rattle.output.specs.Output.{Page, page, putByte, put, Puts}
 
 pub byte-fits : (out : List ℕ) (at b : ℕ) → at < length out → Puts (b ∷ []) (page out at) (page (set out at b) (at + 1))
 unfolding put
