@@ -5,7 +5,8 @@ use mathlib.Core.Bool.{Bool, true, false, cond, not}
 use mathlib.Core.List.{List, [], _∷_}
 use lib.Dec.{eqb}
 use lib.ListN.{length, drop}
-use Rattle.key.specs.Keys.{isDigit, valueFrom}
+use Rattle.ascii.specs.Bytes.{zero}
+use Rattle.ascii.specs.Digits.{isDigit, valueFrom}
 use Rattle.ascii.specs.Texts.{ascii}
 use Rattle.head.specs.declared.Head.{Head}
 use Rattle.head.specs.declared.Head.the-variants.{Bad, Good}
@@ -21,12 +22,12 @@ unfoldable pub leadingDigits : List ℕ → List ℕ
 leadingDigits [] = []
 leadingDigits (b ∷ s) = cond (isDigit b) (b ∷ leadingDigits s) []
 
--- "one to three digits without leading zero" (`0` is 48)
+-- "one to three digits without leading zero"
 abbrev pub isDepth : List ℕ → Bool
 isDepth [] = false
 isDepth (a ∷ []) = true
-isDepth (a ∷ b ∷ []) = not (eqb a 48)
-isDepth (a ∷ b ∷ c ∷ []) = not (eqb a 48)
+isDepth (a ∷ b ∷ []) = not (eqb a zero)
+isDepth (a ∷ b ∷ c ∷ []) = not (eqb a zero)
 isDepth (a ∷ b ∷ c ∷ d ∷ s) = false
 
 -- The head, once its depth and the start of the query string (document 01's "ticket") are known: the flag, with the newlines before and after it.

@@ -11,7 +11,7 @@ use lib.Seq.{drop-append-le, length-take-le}
 use Rattle.laws.proofs.Cases.{below}
 use Rattle.config.specs.declared.Config.{Config}
 use Rattle.config.specs.Limits.{maxLen}
-use Rattle.key.specs.Keys.{isDigit, valueFrom}
+use Rattle.ascii.specs.Digits.{isDigit, valueFrom}
 use Rattle.ascii.specs.Texts.{ascii}
 use Rattle.reading.specs.Reading.{reading}
 use Rattle.head.specs.declared.Head.{Head}
