@@ -8,6 +8,7 @@ use borrow.Author.Tests.{eq-eqb, ne-eqb, ltb-true}
 use lib.Dec.{eqb, ltb}
 use lib.ListN.{length, getD, replicate, length-append, List·getD-append}
 use lib.Seq.{getD-append-add}
+use Rattle.laws.proofs.Cases.{by-test}
 use Rattle.row.specs.Row.{recordWidth}
 use Rattle.key.specs.Keys.{str}
 use Rattle.reading.specs.Values.{Label, unkeyed, intKey, stringKey, labelKey, Value, uninitialized, null, noValue, string, map, sequence, Forest, none, child}
@@ -17,7 +18,6 @@ use Rattle.row.specs.Words.{word}
 use Rattle.reading.specs.Buffers.{keyAt, treeAt, entriesAt, elementsAt, treeIn}
 use Rattle.reading.specs.Counts.{values, entryValues, elementValues}
 use Rattle.reading.specs.Laid.{LaidLabel, Laid, LaidAll}
-use Rattle.reading.proofs.Results.{by-test}
 use Rattle.reading.proofs.Laying.{lies-part, laid-more}
 use Rattle.reading.proofs.Adds.{tally, count, countAll, below}
 use Rattle.reading.proofs.Held.{Held}

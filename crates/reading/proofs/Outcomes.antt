@@ -8,6 +8,7 @@ use borrow.Author.Tests.{ltb-true, ltb-false}
 use lib.Dec.{T, leb, leb→le, ltb}
 use lib.ListN.{length, replicate, length-append, length-replicate}
 use lib.Seq.{drop-at}
+use Rattle.laws.proofs.Cases.{by-test}
 use Rattle.config.specs.declared.Config.{Config}
 use Rattle.config.specs.Limits.{maxDepth, maxLen}
 use Rattle.row.specs.Row.{recordWidth}
@@ -28,7 +29,7 @@ use Rattle.reading.specs.Answers.{Answered, Answers}
 use Rattle.reading.specs.TreeHeld.{TreeHeld}
 use Rattle.reading.specs.Counts.{Counted, Counts}
 use Rattle.reading.specs.Shape.{Shaped, DecidedBelow, Rising, Shape}
-use Rattle.reading.proofs.Results.{by-test, Within}
+use Rattle.reading.proofs.Results.{Within}
 use Rattle.reading.proofs.Runs.{Ends, refusesAt, run-keeps}
 use Rattle.reading.proofs.Shaped.{perform-shaped}
 use Rattle.reading.proofs.Rising.{Risen, perform-risen}

@@ -7,6 +7,7 @@ use native.Mathlib.Omega.{arith}
 use borrow.Author.Tests.{ltb-false}
 use lib.Dec.{ltb}
 use lib.ListN.{length}
+use Rattle.laws.proofs.Cases.{by-test}
 use Rattle.config.specs.declared.Config.{Config}
 use Rattle.config.specs.Limits.{maxDepth, maxLen}
 use Rattle.row.specs.Row.{recordWidth}
@@ -18,7 +19,6 @@ use Rattle.reading.specs.Running.{perform, Answer}
 use Rattle.reading.specs.Reading.{Outcome, lentBy, parsed, outcome, reading}
 use Rattle.reading.specs.Placed.{InPlace, Placed}
 use Rattle.reading.specs.Covering.{Gives, gives, refuses}
-use Rattle.reading.proofs.Results.{by-test}
 use Rattle.reading.proofs.Runs.{Ends, accepts, refusesAt, run-ends}
 use Rattle.reading.proofs.Takings.{endOf, end-later, tokens-end}
 
