@@ -6,9 +6,8 @@ use Prim.Native.Nat.{ℕ, zero, suc, _≤_, _<_}
 use native.Mathlib.Omega.{arith}
 use borrow.Author.Tests.{eq-eqb, ne-eqb}
 use lib.ListN.{length, getD}
-use Rattle.row.specs.Row.{recordWidth}
+use Rattle.row.specs.Row.{recordWidth, childWord, nextWord}
 use Rattle.records.specs.declared.store.Record.{Record}
-use Rattle.row.specs.Row.{childWord, nextWord}
 use Rattle.row.specs.Words.{word}
 use Rattle.records.specs.Records.{keyWordsAt, valueAt, recordAt}
 use Rattle.records.specs.Siblings.{chain}

@@ -8,10 +8,9 @@ use native.Mathlib.Omega.{arith}
 use native.Mathlib.Decide.{ℕ-discrete}
 use borrow.Author.Tests.{eq-eqb, ne-eqb}
 use lib.Dec.{eqb}
-use Rattle.row.specs.Row.{recordWidth}
+use Rattle.row.specs.Row.{recordWidth, childWord, nextWord}
 use Rattle.records.specs.declared.siblings.Position.the-variants.{Between}
 use Rattle.records.specs.declared.store.Record.{Record}
-use Rattle.row.specs.Row.{childWord, nextWord}
 use Rattle.row.specs.Words.{recordCount, word}
 use Rattle.records.specs.Records.{keyWordsAt, recordAt, withRecord, inserted}
 use Rattle.records.specs.Keys.{InText}

@@ -9,10 +9,9 @@ use native.Mathlib.Decide.{ℕ-discrete}
 use borrow.Author.Tests.{eq-eqb, ne-eqb}
 use lib.Dec.{eqb}
 use lib.ListN.{length}
-use Rattle.row.specs.Row.{recordWidth}
+use Rattle.row.specs.Row.{recordWidth, childWord, nextWord}
 use Rattle.records.specs.declared.store.ValueWords.{ValueWords}
 use Rattle.records.specs.declared.store.Record.{Record}
-use Rattle.row.specs.Row.{childWord, nextWord}
 use Rattle.row.specs.Words.{recordCount, word, withWord}
 use Rattle.records.specs.Records.{keyWordsAt, valueAt, keyFields, valueFields, recordFields, withWords, withValue, withRecord, linked}
 use Rattle.records.specs.Holds.{Row}

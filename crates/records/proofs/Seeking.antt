@@ -8,13 +8,12 @@ use native.Mathlib.Omega.{arith}
 use native.Mathlib.Decide.{ℕ-discrete}
 use borrow.Author.Tests.{eq-eqb, ne-eqb}
 use lib.Dec.{eqb}
-use Rattle.row.specs.Row.{recordWidth}
+use Rattle.row.specs.Row.{recordWidth, childWord, nextWord}
 use Rattle.key.specs.Keys.{Key}
 use Rattle.key.specs.KeyOrder.{compareKeys, choose}
 use Rattle.records.specs.declared.siblings.Position.{Position}
 use Rattle.records.specs.declared.siblings.Position.the-variants.{Found, Between}
 use Rattle.records.specs.declared.store.Record.{Record}
-use Rattle.row.specs.Row.{childWord, nextWord}
 use Rattle.row.specs.Words.{word}
 use Rattle.records.specs.Keys.{storedKey}
 use Rattle.records.specs.Siblings.{standing, seek}

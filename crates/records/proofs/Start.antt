@@ -4,9 +4,8 @@ use mathlib.Core.List.{List}
 use Prim.Native.Nat.{ℕ, _+_, _*_, _≤_}
 use native.Mathlib.Omega.{arith}
 use lib.ListN.{replicate, length-replicate}
-use Rattle.row.specs.Row.{recordWidth}
+use Rattle.row.specs.Row.{recordWidth, uninitializedKind}
 use Rattle.laws.proofs.Lists.{zeros}
-use Rattle.row.specs.Row.{uninitializedKind}
 use Rattle.row.specs.Words.{word}
 use Rattle.records.specs.Records.{keyWordsAt, valueAt}
 use Rattle.records.specs.Adding.{unkeyed, childless}

@@ -2,9 +2,8 @@
 use Prim.Native.Nat.{ℕ, _<_, _≤_}
 use mathlib.Core.Path.{_≡_}
 use mathlib.Core.List.{List}
-use Rattle.row.specs.Row.{recordWidth}
+use Rattle.row.specs.Row.{recordWidth, childWord, nextWord}
 use Rattle.records.specs.declared.store.Record.{Record}
-use Rattle.row.specs.Row.{childWord, nextWord}
 use Rattle.row.specs.Words.{recordCount, word}
 use Rattle.records.specs.Records.{keyWordsAt, recordAt}
 use Rattle.records.specs.Keys.{InText}

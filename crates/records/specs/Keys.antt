@@ -4,19 +4,20 @@ use mathlib.Core.Path.{_≡_}
 use mathlib.Core.Bool.{cond}
 use mathlib.Core.List.{List}
 use lib.Dec.{eqb}
-use lib.ListN.{length, take, drop}
+use lib.ListN.{length}
 use Rattle.decode.specs.Decoding.{decoded}
 use Rattle.key.specs.Keys.{Key, int, str}
 use Rattle.records.specs.declared.keys.RawKey.{RawKey}
 use Rattle.records.specs.declared.keys.RawKey.the-variants.{Int, String}
 use Rattle.records.specs.declared.store.KeyWords.{KeyWords}
 use Rattle.row.specs.Row.{intKeyKind}
+use Rattle.row.specs.Words.{textPart}
 use Rattle.records.specs.Records.{keyWordsAt}
 
 -- The key that a record's words say: an Int, or else a part of the text. Key kind 0 falls under the second, as in the code, but only
 -- the children of a Map are looked through, and crate reading proves that those have keys.
 unfoldable pub storedKey : List ℕ → KeyWords → Key
-storedKey text k = cond (eqb (k .kind) intKeyKind) (int (k .offset)) (str (take (k .len) (drop (k .offset) text)))
+storedKey text k = cond (eqb (k .kind) intKeyKind) (int (k .offset)) (str (textPart text (k .offset) (k .len)))
 
 -- The key of record n.
 abbrev pub keyAt : List ℕ → List ℕ → ℕ → Key

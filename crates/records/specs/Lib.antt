@@ -1,5 +1,3 @@
-pub mod Words
-pub mod Store
 pub mod Records
 pub mod Order
 pub mod Keys

@@ -7,7 +7,6 @@ ghost use Rattle.key.specs.KeyOrder.{compareBytes, compareKeys};
 ghost use Rattle.records.specs.Order.{orderingOf};
 ghost use Rattle.records.specs.Keys.{keyAt, meantKey, InText};
 ghost use Rattle.records.specs.Records.{keyWordsAt};
-use crate::store;
 
 // Where one key stands to another, as in the standard library of Rust.
 pub enum Ordering {

@@ -2,10 +2,9 @@
 // lent slice of u32, its key's bytes lie in a lent slice of text, and a `&mut ParsedValue` is a record's number.
 // Each function equals a total function on the list of words (specs/). That the words hold a forest of records is specs/Holds, which
 // proofs/ carry over each of those functions.
-// Below it stand the words of a record in the definitions (reading), the record's width (config), decoding (decode), the keys and their order (key),
-// and laws.
+// Below it stand a record's row (row), decoding (decode), the keys and their order (key), and laws.
 pub mod adding; // a value added at a record
 pub mod clearing; // slices made zero
 pub mod keys; // keys compared
 pub mod siblings; // lists of siblings: a child found, a child put in
-pub mod store; // the words of a record
+pub mod store; // a record's key and value

@@ -1,51 +1,8 @@
-// The words of a record, read and written. In the code, how wide a record is and in which word a thing stands is said here
-// alone; in the contracts it is specs/Words.
+// A record's key and value, as the words that they take (crate row), read and written together.
 ghost use mathlib.Core.Path.{_≡_};
 ghost use Prim.Native.Nat.{_<_};
-ghost use lib.Dec.{leb};
-ghost use Rattle.row.specs.Row.{recordWidth};
-ghost use Rattle.row.specs.Words.{recordCount, word, withWord};
+ghost use Rattle.row.specs.Words.{recordCount};
 ghost use Rattle.records.specs.Records.{valueAt, keyFields, withWords, withValue, withRecord};
-
-// A record's width in words.
-pub const WIDTH: usize = 8;
-
-// The words of a record, by their numbers.
-pub const KIND: usize = 0;
-
-pub const KEY_KIND: usize = 1;
-
-pub const KEY: usize = 2;
-
-pub const KEY_LEN: usize = 3;
-
-pub const TEXT: usize = 4;
-
-pub const TEXT_LEN: usize = 5;
-
-pub const CHILD: usize = 6;
-
-pub const NEXT: usize = 7;
-
-// The kinds of a value.
-pub const UNINITIALIZED: u32 = 0;
-
-pub const MAP: u32 = 1;
-
-pub const SEQUENCE: u32 = 2;
-
-pub const STRING: u32 = 3;
-
-pub const NULL: u32 = 4;
-
-pub const NO_VALUE: u32 = 5;
-
-// The kinds of a key.
-pub const NO_KEY: u32 = 0;
-
-pub const INT_KEY: u32 = 1;
-
-pub const STRING_KEY: u32 = 2;
 
 // The words of a key: its kind, an Int's value or a String's offset in the text, and a String's length.
 pub struct KeyWords {
@@ -67,38 +24,15 @@ pub struct Record {
     pub value: ValueWords,
 }
 
-// Whether the words make so many records.
-pub fn has_room(words: &[u32], count: u32) -> bool
-    ensures { λ r. ⌜ r ≡ leb count (recordCount (now (words .entry))) ⌝ }
-{
-    count as usize <= words.len() / WIDTH
-}
-
-// Word w of record n.
-pub fn get_word(words: &[u32], n: u32, w: usize) -> u32
-    requires { ⌜ (n < recordCount (now words)) × (w < recordWidth) ⌝ }
-    ensures { λ r. ⌜ r ≡ word (now (words .entry)) n w ⌝ }
-{
-    words[n as usize * WIDTH + w]
-}
-
-// Makes x word w of record n.
-pub(crate) fn set_word(words: &mut [u32], n: u32, w: usize, x: u32)
-    requires { ⌜ (n < recordCount (now words)) × (w < recordWidth) ⌝ }
-    ensures { λ _. ⌜ now (words .exit) ≡ withWord (now (words .entry)) n w x ⌝ }
-{
-    words[n as usize * WIDTH + w] = x;
-}
-
 // The value of record n, without its children.
 pub(crate) fn get_value(words: &[u32], n: u32) -> ValueWords
     requires { ⌜ n < recordCount (now words) ⌝ }
     ensures { λ r. ⌜ r ≡ valueAt (now (words .entry)) n ⌝ }
 {
     ValueWords {
-        kind: get_word(words, n, KIND),
-        offset: get_word(words, n, TEXT),
-        len: get_word(words, n, TEXT_LEN),
+        kind: row::get_word(words, n, row::KIND),
+        offset: row::get_word(words, n, row::TEXT),
+        len: row::get_word(words, n, row::TEXT_LEN),
     }
 }
 
@@ -107,9 +41,9 @@ pub fn set_value(words: &mut [u32], n: u32, value: ValueWords)
     requires { ⌜ n < recordCount (now words) ⌝ }
     ensures { λ _. ⌜ now (words .exit) ≡ withValue (now (words .entry)) n value ⌝ }
 {
-    set_word(words, n, KIND, value.kind);
-    set_word(words, n, TEXT, value.offset);
-    set_word(words, n, TEXT_LEN, value.len);
+    row::set_word(words, n, row::KIND, value.kind);
+    row::set_word(words, n, row::TEXT, value.offset);
+    row::set_word(words, n, row::TEXT_LEN, value.len);
 }
 
 // Gives record n another key. Its value and its links stay.
@@ -117,9 +51,9 @@ fn set_key(words: &mut [u32], n: u32, key: KeyWords)
     requires { ⌜ n < recordCount (now words) ⌝ }
     ensures { λ _. ⌜ now (words .exit) ≡ withWords (now (words .entry)) n (keyFields key) ⌝ }
 {
-    set_word(words, n, KEY_KIND, key.kind);
-    set_word(words, n, KEY, key.offset);
-    set_word(words, n, KEY_LEN, key.len);
+    row::set_word(words, n, row::KEY_KIND, key.kind);
+    row::set_word(words, n, row::KEY, key.offset);
+    row::set_word(words, n, row::KEY_LEN, key.len);
 }
 
 // Writes record n, which has no children yet. The other records stay.
@@ -129,6 +63,6 @@ pub(crate) fn write_record(words: &mut [u32], n: u32, new: Record, next: u32)
 {
     set_value(words, n, new.value);
     set_key(words, n, new.key);
-    set_word(words, n, CHILD, 0);
-    set_word(words, n, NEXT, next);
+    row::set_word(words, n, row::CHILD, 0);
+    row::set_word(words, n, row::NEXT, next);
 }

@@ -12,7 +12,7 @@ use Rattle.records.proofs.adding.+append.Lts-append as append-lts
 use Rattle.records.proofs.adding.add_child.Reads as add-child-reads
 use Rattle.records.proofs.adding.append_here.Reads as append-here-reads
 use Rattle.records.proofs.siblings.find.Reads as find-reads
-use Rattle.records.proofs.store.get_word.Reads as get-word-reads
+use Rattle.row.proofs.get_word.Reads as get-word-reads
 use Rattle.records.proofs.adding.+append.{statement}
 use Rattle.records.proofs.adding.+append.Tie.{close}
 
