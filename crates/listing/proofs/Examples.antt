@@ -5,7 +5,7 @@ use Rattle.decode.specs.Hex.{digitOf}
 use Rattle.decode.specs.Decoding.{decoded}
 use Rattle.key.specs.Keys.{allDigits, valueFrom}
 use Rattle.reading.specs.Reading.{reading}
-use Rattle.listing.specs.Numbers.{decimalIn, decimal, hex}
+use Rattle.output.specs.Numbers.{decimalIn, decimal, hex}
 use Rattle.listing.specs.Lines.{ownLines, treeLines}
 use Rattle.listing.specs.Listing.{answerLines, listing}
 use Rattle.listing.specs.Examples.{ExamplesPass}

@@ -6,7 +6,7 @@ use mathlib.Core.List.{List, [], _∷_, _++_}
 use Rattle.key.specs.Keys.{Key, int, str}
 use Rattle.ascii.specs.Texts.{ascii}
 use Rattle.reading.specs.Trees.{Tree, uninitialized, null, noValue, string, map, sequence, Entries, noEntries, entry, Elements, noElements, element}
-use Rattle.listing.specs.Numbers.{decimal, hex}
+use Rattle.output.specs.Numbers.{decimal, hex}
 
 -- "one item a line": its name, the item, and a newline.
 abbrev pub line : String → List ℕ → List ℕ

@@ -1,7 +1,7 @@
 use native.Mathlib.Omega.{arith}
 use mathlib.Core.Path.{refl}
 use Rattle.listing.specs.Listing.{answerLines}
-use Rattle.listing.proofs.Pages.{puts-then}
+use Rattle.output.proofs.Pages.{puts-then}
 use Rattle.listing.proofs.write_answer.Statement.{statement}
 use Rattle.listing.proofs.write_answer.Tie as tie
 
