@@ -121,6 +121,7 @@ mutual
 -- The tree in words that are u32s has Int keys that are.
 module _ (words text : List ℕ) (small : (i : ℕ) → getD words i 0 < 2 ^ 32) where
   narrow-key : (i : ℕ) → NarrowKey (keyAt words text i)
+  unfolding word
   narrow-key i = go (eqb (word words i keyKindWord) intKeyKind)
     where
       go : (b : Bool) → NarrowKey (cond b (int (word words i keyWord)) (str (textPart text (word words i keyWord) (word words i keyLengthWord))))

@@ -27,7 +27,7 @@ returns c =
     let at-write-answer = at-write-values .before .before .before .before in
     let p = puts-then (at-write-answer .write-answer .ensures) (at-write-values .write-values .ensures) in (
       c .answer-at .ensures ∙ answered _ _ _ _ p (length (at-write-values .write-values .last .1 .1 .1 .0))
-          (omega (arith, at-write-values .write-values .kept .1 .1 .1 .0, at-write-answer .write-answer .kept .1 .1 .1 .1 .0)),
+          (omega (arith, at-write-values .write-values .kept .1 .1 .1 .0, at-write-answer .write-answer .kept .1 .0)),
       all-filled _ _ _ _ p,
     )
 
