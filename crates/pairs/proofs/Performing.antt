@@ -10,10 +10,9 @@ use Rattle.reading.specs.Values.{Value}
 use Rattle.reading.specs.Leaves as leaves
 use Rattle.reading.specs.Charging.{Lent, Made}
 use Rattle.refusals.specs.declared.Refusal.{Refusal}
-use Rattle.refusals.specs.Codes.{code}
 use Rattle.reading.specs.Scanning.{root, under, last, Command, enter, add, Mode, rootKey, bracket, Step, _then_}
 use Rattle.reading.specs.Adding.{appendValue, atPath}
-use Rattle.reading.specs.Running.{Answer, perform, resume}
+use Rattle.reading.specs.Running.{Answer, refusedAt, perform, resume}
 use Rattle.reading.specs.Covering.{Gives, gives, Whatever, Covered}
 use Rattle.cursor.specs.declared.taking.Cursor.{Cursor}
 use Rattle.cursor.specs.declared.collecting.Key.{Key}
@@ -37,7 +36,7 @@ use Rattle.pairs.specs.declared.commands.KeySegment.{KeySegment}
 use Rattle.pairs.specs.declared.commands.LeafSegment.{LeafSegment}
 use Rattle.pairs.specs.Segments.{keySegment, leafSegment}
 use Rattle.pairs.specs.Progress.{still, Reads, Ready, Able}
-use Rattle.pairs.specs.Turns.{turnOf, levelOf, Refuses, Onward, Further, Turns, Levels}
+use Rattle.pairs.specs.Turns.{turnOf, levelOf, Onward, Further, Turns, Levels}
 use Rattle.pairs.proofs.Moves.{Move}
 
 -- What a command requires.
@@ -47,9 +46,9 @@ able r =
     record { stands = standing (y .stands); records = omega (arith, y .records, y .within, y .small); bytes = omega (arith, y .bytes, y .within, y .small) }
 
 -- A performed command, by its refusal or what it made.
-refused-reads : {answer : Answer} {lent : Lent} {W X : List ℕ} {path : List keys.Key} {i number : ℕ} {M : Made Value} (onward : Value → ℕ → List ℕ → Answer)
-    → After lent W X path (RefusedThere number) M → resume i M onward ≡ answer → Refuses answer number i
-refused-reads onward (stopped {x = x} q) k = record { refusal = x; is = sym k; numbered = q }
+refused-reads : {answer : Answer} {lent : Lent} {W X : List ℕ} {path : List keys.Key} {i : ℕ} {x : Refusal} {M : Made Value} (onward : Value → ℕ → List ℕ → Answer)
+    → After lent W X path (RefusedThere x) M → resume i M onward ≡ answer → answer ≡ refusedAt x i
+refused-reads onward stopped k = sym k
 
 module _ {config : Config} {input : List ℕ} {i : ℕ} {answer : Answer} {lent : Lent} {W X : List ℕ} {path : List keys.Key} {m : Mode}
     (small : length input ≤ 65535) (within : i ≤ length input + 1) where
@@ -85,8 +84,8 @@ module _ {W X W′ X′ : List ℕ} {h : Here} {r : Performed} (c : List keys.Ke
       }
 
   -- It is refused at the place.
-  pub refused-turns : {config : Config} {input : List ℕ} {i low : ℕ} {number : ℕ} {W″ X″ : List ℕ} → r ≡ RefusedThere number
-      → (m : List keys.Key → Mode) → Turns config input W X W″ X″ h i (λ path. c path then m path) low (Refused number i)
+  pub refused-turns : {config : Config} {input : List ℕ} {i low : ℕ} {x : Refusal} {W″ X″ : List ℕ} → r ≡ RefusedThere x
+      → (m : List keys.Key → Mode) → Turns config input W X W″ X″ h i (λ path. c path then m path) low (Refused x i)
   refused-turns {config} {input} {i} e m =
       record {
         turns = λ a y. refused-reads (from config (y .lent) input i (m (y .path)))
@@ -101,12 +100,12 @@ module _ {W X W′ X′ : List ℕ} {h : Here} {r : Performed} (c : List keys.Ke
     where
       go : (z : Performed) → r ≡ z → (a : Answer) → Reads config input W X h i (λ path. c path then rootKey []) a → Onward config input W′ X′ i a (turnOf z i)
       go (MadeHere there) q a y = (made-move q (λ path. rootKey []) (λ path. rootKey []) (λ path. refl) .moves a y, omega arith)
-      go (RefusedThere number) q a y = refused-turns {low = i} {W″ = W′} {X″ = X′} q (λ path. rootKey []) .turns a y
+      go (RefusedThere x) q a y = refused-turns {low = i} {W″ = W′} {X″ = X′} q (λ path. rootKey []) .turns a y
 
 -- The tree's rule refuses where the step does.
 pub refuse-turns : (x : Refusal) {config : Config} {input W X W′ X′ : List ℕ} {h : Here} {i low : ℕ} {m : List keys.Key → Mode}
-    → Turns config input W X W′ X′ h i (λ path. Command.refuse x then m path) low (Refused (code x) i)
-refuse-turns x = record { turns = λ a y. record { refusal = x; is = sym (y .onward); numbered = refl } }
+    → Turns config input W X W′ X′ h i (λ path. Command.refuse x then m path) low (Refused x i)
+refuse-turns x = record { turns = λ a y. sym (y .onward) }
 
 -- A key is entered, and a `[` opens the next level.
 pub entered-levels : {W X W′ X′ : List ℕ} {h : Here} {r : Performed} {k : keys.Key} → Does W X W′ X′ h (λ lent path. perform lent (enter path k)) (λ path. path ++ (k ∷ [])) r
@@ -126,7 +125,7 @@ entered-levels {W} {X} {W′} {X′} {h} {r} {k} d cursor {config} {input} {leve
       omega arith,
       (l, w),
     )
-    go (RefusedThere number) q a y =
+    go (RefusedThere x) q a y =
         refused-turns (λ path. enter path k) (λ path. path ++ (k ∷ [])) d {low = cursor .place} {W″ = W′} {X″ = X′} q
         (λ path. bracket (path ++ (k ∷ [])) level (segment input (cursor .end) (cursor .place))) .turns a y
 

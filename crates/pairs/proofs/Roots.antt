@@ -14,7 +14,8 @@ use Rattle.key.specs.Keys.{keyOf}
 use Rattle.reading.specs.Leaves.{noValue}
 use Rattle.reading.specs.Scanning.{root, under, enter, add, rootKey, value, bracket, finish, Step, skip, _then_}
 use Rattle.reading.specs.Taking.{equals, opening}
-use Rattle.reading.specs.Running.{Answer}
+use Rattle.refusals.specs.declared.Refusal.{Refusal}
+use Rattle.reading.specs.Running.{Answer, refusedAt}
 use Rattle.reading.specs.Scanning as scanning
 use Rattle.cursor.specs.declared.taking.Symbol.{Symbol}
 use Rattle.cursor.specs.declared.taking.Symbol.the-variants.{Ampersand, Equals, Opening, Closing, Other, End}
@@ -37,7 +38,7 @@ use Rattle.tree.proofs.Standing.{at-root}
 use Rattle.pairs.specs.declared.turning.Turn.{Turn}
 use Rattle.pairs.specs.declared.turning.Turn.the-variants.{Going, Refused}
 use Rattle.pairs.specs.Progress.{still, stepBy, Reads, Ready}
-use Rattle.pairs.specs.Turns.{Refuses, Onward, Turns, rootOf, rootStep, Stopped, Accepts}
+use Rattle.pairs.specs.Turns.{Onward, Turns, rootOf, rootStep, Stopped, Accepts}
 use Rattle.pairs.proofs.Moves.{Move, move-on, due-as, took-move, root-scan, ends-step}
 
 -- The root of the tree is led to by no keys.
@@ -239,7 +240,7 @@ module _ {config : Config} {s W₀ X₀ : List ℕ} {h₀ : Here} {W X : List �
             text = q ∙ v .text;
           }
 
-    pub rooting-refused : {number place : ℕ} → turn ≡ Refused number place → (a : Answer) → Reads config s W₀ X₀ h₀ 0 (still (λ path. rootKey [])) a → Refuses a number place
+    pub rooting-refused : {x : Refusal} {place : ℕ} → turn ≡ Refused x place → (a : Answer) → Reads config s W₀ X₀ h₀ 0 (still (λ path. rootKey [])) a → a ≡ refusedAt x place
     rooting-refused e a y = subst (λ (z : Turn). Onward config s W′ X′ (i + 1) a z) e (t .turns a (v .move .moves a y))
 
   pub rooting-done : length s ≤ i → (a : Answer) → Reads config s W₀ X₀ h₀ 0 (still (λ path. rootKey [])) a → Accepts a W X h

@@ -8,8 +8,6 @@ use lib.ListN.{length}
 use Rattle.config.specs.declared.Config.{Config}
 use Rattle.key.specs.Keys.{Key}
 use Rattle.reading.specs.Values.{Value}
-use Rattle.refusals.specs.declared.Refusal.{Refusal}
-use Rattle.refusals.specs.Codes.{code}
 use Rattle.reading.specs.Scanning.{Mode, rootKey, bracket, keyBelowDepth, keyAtDepth, Step}
 use Rattle.reading.specs.Running.{Answer, accepted, refusedAt}
 use Rattle.cursor.specs.declared.taking.Cursor.{Cursor}
@@ -32,23 +30,17 @@ use Rattle.pairs.specs.Progress.{still, stepBy, Reads}
 -- A command that ends a pair, or enters a key before a bracket, by its answer.
 abbrev pub turnOf : Performed → ℕ → Turn
 turnOf (Made there) place = Going place there
-turnOf (RefusedThere number) place = Refused number place
+turnOf (RefusedThere x) place = Refused x place
 
 abbrev pub levelOf : Performed → ℕ → Cursor → Level
 levelOf (Made there) level cursor = Deeper (record { here = there; level = level; cursor = cursor })
-levelOf (RefusedThere number) level cursor = Turned (Refused number (cursor .place))
-
--- The answer is a refusal, by its number and place.
-pub record Refuses (answer : Answer) (number place : ℕ) : Type 0 where
-  pub refusal : Refusal
-  pub is : answer ≡ refusedAt refusal place
-  pub numbered : number ≡ code refusal
+levelOf (RefusedThere x) level cursor = Turned (Refused x (cursor .place))
 
 -- After a pair: the next one starts, not before a place `low`; or the reading is refused.
 abbrev pub Onward : Config → List ℕ → List ℕ → List ℕ → ℕ → Answer → Turn → Type 0
 Onward config input words text low answer (Going place here) =
     Reads config input words text here place (still (λ path. rootKey [])) answer × (low ≤ place)
-Onward config input words text low answer (Refused number place) = Refuses answer number place
+Onward config input words text low answer (Refused x place) = answer ≡ refusedAt x place
 
 -- The last taking is inside the input.
 abbrev pub Inside : List ℕ → Nested → Type 0
@@ -96,7 +88,7 @@ pub record Accepts (answer : Answer) (words text : List ℕ) (here : Here) : Typ
 
 abbrev pub Ends : Answer → List ℕ → List ℕ → Turn → Type 0
 Ends answer words text (Going place here) = Accepts answer words text here
-Ends answer words text (Refused number place) = Refuses answer number place
+Ends answer words text (Refused x place) = answer ≡ refusedAt x place
 
 -- The root of the tree that stands there.
 abbrev pub rootOf : Here → Here

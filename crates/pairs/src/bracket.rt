@@ -10,7 +10,6 @@ ghost use Rattle.cursor.specs.Collected.{decodedKey, KeyBounds};
 ghost use Rattle.pairs.specs.Progress.{still, Ready};
 ghost use Rattle.pairs.specs.Turns.{opened, Inside, inKeyBelow, inKeyAt, inKey, InKey, Turns, Levels};
 use crate::commands;
-use crate::refusals;
 use crate::turning::Level;
 use crate::turning::Nested;
 use crate::turning::Turn;
@@ -28,6 +27,7 @@ use cursor::clear_acc;
 use cursor::expect_key;
 use cursor::take;
 use cursor::take_until;
+use refusals::Refusal;
 use tree::Here;
 use tree::Performed;
 use tree::needing;
@@ -52,9 +52,9 @@ fn parse_sequence_value(
     match symbol {
         Symbol::Ampersand => turn_of(commands::push(input, words, text, here, Leaf::NoValue), at),
         Symbol::Equals => value_last(input, config, words, text, here, at),
-        Symbol::Opening => Turn::Refused(refusals::OPENING_AFTER_BRACKETS, at),
-        Symbol::Closing => Turn::Refused(refusals::BYTE_AFTER_BRACKETS, at),
-        Symbol::Other => Turn::Refused(refusals::BYTE_AFTER_BRACKETS, at),
+        Symbol::Opening => Turn::Refused(Refusal::OpeningAfterBrackets, at),
+        Symbol::Closing => Turn::Refused(Refusal::ByteAfterBrackets, at),
+        Symbol::Other => Turn::Refused(Refusal::ByteAfterBrackets, at),
         Symbol::End => turn_of(commands::push(input, words, text, here, Leaf::NoValue), at),
     }
 }
@@ -75,7 +75,7 @@ fn parse_brackets(
 {
     match needing::expect_sequence(words, here) {
         Performed::Made(there) => parse_sequence_value(input, config, words, text, there, place),
-        Performed::Refused(number) => Turn::Refused(number, place),
+        Performed::Refused(refusal) => Turn::Refused(refusal, place),
     }
 }
 
@@ -111,8 +111,8 @@ fn after_key(
             nested.level + 1,
             cursor,
         ),
-        Symbol::Closing => Level::Turned(Turn::Refused(refusals::BYTE_AFTER_KEY, place)),
-        Symbol::Other => Level::Turned(Turn::Refused(refusals::BYTE_AFTER_KEY, place)),
+        Symbol::Closing => Level::Turned(Turn::Refused(Refusal::ByteAfterKey, place)),
+        Symbol::Other => Level::Turned(Turn::Refused(Refusal::ByteAfterKey, place)),
         Symbol::End => Level::Turned(turn_of(
             commands::insert_unique(input, words, text, here, key, Leaf::NoValue),
             place,
@@ -138,7 +138,7 @@ fn key_below_depth(
     let cursor = taken.cursor;
     let symbol = taken.symbol;
     if symbol.is(Symbol::End) {
-        return Level::Turned(Turn::Refused(refusals::END_BEFORE_CLOSING, cursor.place));
+        return Level::Turned(Turn::Refused(Refusal::EndBeforeClosing, cursor.place));
     }
     let here = nested.here;
     let closed = Nested {
@@ -228,7 +228,7 @@ fn open_key(
             };
             parse_key(input, config, words, text, mapped)
         }
-        Performed::Refused(number) => Level::Turned(Turn::Refused(number, cursor.place)),
+        Performed::Refused(refusal) => Level::Turned(Turn::Refused(refusal, cursor.place)),
     }
 }
 
@@ -266,7 +266,7 @@ fn parse_level(
     let cursor = taken.cursor;
     let symbol = taken.symbol;
     if symbol.is(Symbol::End) {
-        return Level::Turned(Turn::Refused(refusals::END_AFTER_OPENING, cursor.place));
+        return Level::Turned(Turn::Refused(Refusal::EndAfterOpening, cursor.place));
     }
     if symbol.is(Symbol::Closing) {
         return Level::Turned(parse_brackets(input, config, words, text, here, cursor.place));

@@ -69,7 +69,7 @@ fn enter_root(
 {
     match commands::enter(input, words, text, here, key) {
         Performed::Made(there) => parse_nested_key(input, config, words, text, there, cursor),
-        Performed::Refused(number) => Turn::Refused(number, cursor.place),
+        Performed::Refused(refusal) => Turn::Refused(refusal, cursor.place),
     }
 }
 
@@ -178,8 +178,8 @@ pub fn parse_pairs(input: &[u8], config: Config, words: &mut [u32], text: &mut [
                 place = next;
                 here = there;
             }
-            Turn::Refused(number, at) => {
-                return Turn::Refused(number, at);
+            Turn::Refused(refusal, at) => {
+                return Turn::Refused(refusal, at);
             }
         }
     }

@@ -2,13 +2,14 @@
 ghost use mathlib.Core.Path.{_≡_};
 ghost use Rattle.pairs.specs.Turns.{turnOf, levelOf};
 use cursor::Cursor;
+use refusals::Refusal;
 use tree::Here;
 use tree::Performed;
 
-// A pair is done: the next one starts at a place, where the tree stands so; or a refusal's number and place.
+// A pair is done: the next one starts at a place, where the tree stands so; or a refusal and its place.
 pub enum Turn {
     Going(usize, Here),
-    Refused(u32, usize),
+    Refused(Refusal, usize),
 }
 
 // Where a reading stands in brackets: the record that they are for, document 01's "level", and the cursor.
@@ -30,7 +31,7 @@ pub(crate) fn turn_of(performed: Performed, place: usize) -> Turn
 {
     match performed {
         Performed::Made(there) => Turn::Going(place, there),
-        Performed::Refused(number) => Turn::Refused(number, place),
+        Performed::Refused(refusal) => Turn::Refused(refusal, place),
     }
 }
 
@@ -44,6 +45,6 @@ pub(crate) fn level_of(performed: Performed, level: usize, cursor: Cursor) -> Le
             level,
             cursor,
         }),
-        Performed::Refused(number) => Level::Turned(Turn::Refused(number, cursor.place)),
+        Performed::Refused(refusal) => Level::Turned(Turn::Refused(refusal, cursor.place)),
     }
 }

@@ -1,5 +1,5 @@
 -- What is proved of `reading`, of calls that meet the contract of `parse`.
-use mathlib.Core.Path.{_≡_, sym, subst}
+use mathlib.Core.Path.{sym, subst}
 use lib.ListN.{length}
 use Rattle.reading.specs.Reading.{Outcome, reading}
 use Rattle.reading.specs.Answers.{Answered}
@@ -20,7 +20,7 @@ answers config input call =
 
 pub space : Space
 space config input call h =
-    subst (λ (o : Outcome). NotForSpace (o .number)) (sym (call .ensured))
+    subst (λ (o : Outcome). NotForSpace (o .answer .number)) (sym (call .ensured))
     (reading-space.space config input (call .lentWords) (call .lentText) h)
 
 pub growth : Growth

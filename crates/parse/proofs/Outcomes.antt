@@ -1,5 +1,5 @@
 -- The whole reading: from the loop over pairs to `reading`.
-use Prim.Native.Nat.{ℕ, _≤_, _<_}
+use Prim.Native.Nat.{ℕ, _+_, _≤_, _<_}
 use mathlib.Core.Path.{_≡_, refl, sym, ap, _∙_, subst}
 use mathlib.Core.Bool.{Bool, true, false}
 use mathlib.Core.List.{List, [], _∷_}
@@ -9,16 +9,18 @@ use lib.Dec.{leb, ltb}
 use lib.ListN.{length, replicate, length-replicate}
 use Rattle.config.specs.declared.Config.{Config}
 use Rattle.config.specs.Limits.{maxDepth, maxLen}
-use Rattle.row.specs.Row.{recordWidth}
+use Rattle.row.specs.Row.{recordWidth, noValueKind}
+use Rattle.refusals.specs.declared.Refusal.{Refusal}
+use Rattle.refusals.specs.declared.Refusal.the-variants.{TooDeep, TooLong, NoRecord}
 use Rattle.reading.specs.Values.{uninitialized, noValue}
 use Rattle.reading.specs.Charging.{Lent}
 use Rattle.reading.specs.Scanning.{rootKey}
 use Rattle.reading.specs.Running.{Answer, accepted}
 use Rattle.reading.specs.Reading.{lentBy, parsed, outcome, reading}
 use Rattle.reading.specs.Covering.{gives}
+use Rattle.reading.proofs.Placed.{read-placed}
 use Rattle.cursor.specs.From.{from}
 use Rattle.cursor.proofs.From.{from-start}
-use Rattle.row.specs.Row.{noValueKind}
 use Rattle.row.specs.Words.{recordCount}
 use Rattle.records.specs.Records.{withValue}
 use Rattle.records.specs.Adding.{childless}
@@ -79,11 +81,17 @@ module _ (config : Config) {s W X : List ℕ} (small : length s ≤ maxLen) (som
         let y = ends e in
         sym (ap (outcome (length W) (length X)) (y .is) ∙ rw (← w, ← x) (outcome-is (y .stores)))
 
-    pub some-refused : {number place : ℕ} {W″ X″ : List ℕ} → turn ≡ Refused number place → W″ ≡ replicate (length W′) 0 → X″ ≡ replicate (length X′) 0
-        → outcomeOf (RefusedHere number place) W″ X″ ≡ outcome (length W) (length X) (parsed config s (lentBy W X))
-    some-refused {number} {place} e p q =
-        let y = ends e in
-        rw (p, q, w, x, y .numbered) (sym (ap (outcome (length W) (length X)) (y .is)))
+    module _ {refusal : Refusal} {place : ℕ} (e : turn ≡ Refused refusal place) where
+      -- A u32 holds the place.
+      pub place-inside : place ≤ maxLen + 1
+      place-inside =
+          let inside : place ≤ length s + 1 =
+          subst (λ (z : Answer). (outcome 0 0 z) .answer .place ≤ length s + 1) (ends e) (read-placed config s (lentBy W X) 0 0) in
+          omega (arith, small)
+
+      pub some-refused : {W″ X″ : List ℕ} → W″ ≡ replicate (length W′) 0 → X″ ≡ replicate (length X′) 0
+          → outcomeOf (RefusedHere refusal place) W″ X″ ≡ outcome (length W) (length X) (parsed config s (lentBy W X))
+      some-refused p q = rw (p, q, w, x) (sym (ap (outcome (length W) (length X)) (ends e)))
 
 -- The slices are cleared first.
 module _ (W X W′ X′ : List ℕ) (a : W′ ≡ replicate (length W) 0) (b : X′ ≡ replicate (length X) 0) where
@@ -132,17 +140,17 @@ module _ (W : List ℕ) {n : ℕ} {b : Bool} (e : b ≡ leb n (recordCount W)) w
 
 -- Refusals 1 to 3.
 module _ (config : Config) (s W X : List ℕ) where
-  pub too-deep : ltb maxDepth (config .depth) ≡ true → outcomeOf (RefusedHere 1 0) W X ≡ reading config s W X
+  pub too-deep : ltb maxDepth (config .depth) ≡ true → outcomeOf (RefusedHere TooDeep 0) W X ≡ reading config s W X
   unfolding reading
   too-deep h = rw h
 
   module _ (h : ltb maxDepth (config .depth) ≡ false) where
-    pub too-long : ltb maxLen (length s) ≡ true → outcomeOf (RefusedHere 2 0) W X ≡ reading config s W X
+    pub too-long : ltb maxLen (length s) ≡ true → outcomeOf (RefusedHere TooLong 0) W X ≡ reading config s W X
     unfolding reading
     too-long k = rw (h, k)
 
     module _ (k : ltb maxLen (length s) ≡ false) where
-      pub no-record : length W < recordWidth → outcomeOf (RefusedHere 3 0) W X ≡ reading config s W X
+      pub no-record : length W < recordWidth → outcomeOf (RefusedHere NoRecord 0) W X ≡ reading config s W X
       unfolding reading
       no-record l = rw (h, k, lt-ltb (length W) recordWidth l)
 

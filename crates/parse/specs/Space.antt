@@ -10,4 +10,4 @@ use Rattle.parse.specs.Calls.{Call, seen}
 abbrev pub Space : Type 0
 Space =
     (config : Config) (input : List ℕ) (call : Call config input)
-    → Enough input (lentBy (call .lentWords) (call .lentText)) → NotForSpace ((seen call) .number)
+    → Enough input (lentBy (call .lentWords) (call .lentText)) → NotForSpace ((seen call) .answer .number)

@@ -1,34 +1,56 @@
 // The reader: the source's `parse` and its `Parser` (src/de/parse.rs), of an input into lent records and text, equal
 // to `reading` (specs/Outcomes). The demands that follow for one call and for two stand in specs/Demands.
-// Below it stand the reading of the pairs (pairs), the records (records) and the definitions (reading).
+// Below it stand the reading of the pairs (pairs), the records (records), a record's row (row), the refusals
+// (refusals) and the definitions (reading).
 mod parser; // the parser that holds the input
-mod refusals; // the numbers of the refusals
 
 ghost use mathlib.Core.Path.{_≡_};
 ghost use Prim.Native.Nat.{_≤_, _<_};
 ghost use lib.ListN.{length, replicate};
 ghost use Rattle.config.specs.Limits.{maxLen};
-ghost use Rattle.row.specs.Row.{recordWidth};
+ghost use Rattle.row.specs.Row.{recordWidth, noValueKind};
 ghost use Rattle.reading.specs.Reading.{lentBy, parsed, outcome, reading};
-ghost use Rattle.row.specs.Row.{noValueKind};
 ghost use Rattle.records.specs.Records.{withValue};
 ghost use Rattle.records.specs.Adding.{childless};
 ghost use Rattle.parse.specs.declared.Parsed.the-variants.{Accepted};
-ghost use Rattle.parse.specs.Outcomes.{outcomeOf};
+ghost use Rattle.parse.specs.Outcomes.{answerOf, outcomeOf};
 use config::Config;
 use pairs::Turn;
 use pairs::parse_pairs;
 pub use parser::Parser;
+use reading::Reading;
 use records::clearing::clear_text;
 use records::clearing::clear_words;
 use records::store;
 use records::store::ValueWords;
+use refusals::Refusal;
 
-// The answer of a reading: accepted, with the records and the text bytes used; or refused, with document 01's number
-// and place.
+// The answer of a reading: accepted, with the records and the text bytes used; or the refusal and its place.
 pub enum Parsed {
     Accepted(u32, u32),
-    Refused(u32, usize),
+    Refused(Refusal, u32),
+}
+
+impl Parsed {
+    // The answer as document 01's result, in numbers.
+    pub fn answer(self) -> Reading
+        ensures { λ r. ⌜ r ≡ answerOf self ⌝ }
+    {
+        match self {
+            Parsed::Accepted(records, bytes) => Reading {
+                number: 0,
+                place: 0,
+                records,
+                bytes,
+            },
+            Parsed::Refused(refusal, place) => Reading {
+                number: refusals::code(refusal),
+                place,
+                records: 0,
+                bytes: 0,
+            },
+        }
+    }
 }
 
 // Reads an input that isn't empty into cleared slices. A refusal leaves them cleared.
@@ -41,10 +63,11 @@ fn parse_some(input: &[u8], config: Config, words: &mut [u32], text: &mut [u8]) 
 {
     match parse_pairs(input, config, words, text) {
         Turn::Going(_, here) => Parsed::Accepted(here.records, here.bytes),
-        Turn::Refused(number, place) => {
+        Turn::Refused(refusal, place) => {
+            let at = place as u32;
             clear_words(words);
             clear_text(text);
-            Parsed::Refused(number, place)
+            Parsed::Refused(refusal, at)
         }
     }
 }
@@ -85,15 +108,15 @@ fn parse_input(input: &[u8], config: Config, words: &mut [u32], text: &mut [u8])
         ≡ reading config (now (input .entry)) (now (words .entry)) (now (text .entry)) ⌝ }
 {
     if config.is_too_deep() {
-        return Parsed::Refused(refusals::TOO_DEEP, 0);
+        return Parsed::Refused(Refusal::TooDeep, 0);
     }
     if Config::is_too_long(input.len()) {
-        return Parsed::Refused(refusals::TOO_LONG, 0);
+        return Parsed::Refused(Refusal::TooLong, 0);
     }
     if row::has_room(words, 1) {
         return parse_cleared(input, config, words, text);
     }
-    Parsed::Refused(refusals::NO_RECORD, 0)
+    Parsed::Refused(Refusal::NoRecord, 0)
 }
 
 // Reads the input into the lent words and text. Refusals 1 to 3 leave both unchanged, the later ones leave both zero;

@@ -41,6 +41,11 @@ outcome-placed : (words bytes n : ℕ) {a : Answer} → Ends (λ v m t. Unit) (�
 outcome-placed words bytes n (accepts u) = omega arith
 outcome-placed words bytes n (refusesAt h) = h
 
+-- A reading that refusals 1 to 3 don't stand against.
+pub read-placed : (config : Config) (input : List ℕ) (lent : Lent) (words bytes : ℕ)
+    → (outcome words bytes (parsed config input lent)) .answer .place ≤ length input + 1
+read-placed config input lent words bytes = outcome-placed words bytes (length input + 1) (parsed-placed config input lent)
+
 pub placed : Placed
 unfolding reading
 placed config input words text =
@@ -55,5 +60,5 @@ placed config input words text =
 
     moved : ltb maxLen (length input) ≡ false → In (outcome (length words) (length text) (parsed config input (lentBy words text)))
     moved f =
-        let h = outcome-placed (length words) (length text) (length input + 1) (parsed-placed config input (lentBy words text)) in
+        let h = read-placed config input (lentBy words text) (length words) (length text) in
         record { inside = h; bounded = omega (arith, h, ltb-false maxLen (length input) f) }

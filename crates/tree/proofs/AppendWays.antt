@@ -18,7 +18,6 @@ use Rattle.records.proofs.Held.{other-text}
 use Rattle.reading.specs.Values.{Value}
 use Rattle.reading.specs.Leaves.{Leaf}
 use Rattle.refusals.specs.declared.Refusal.the-variants.{TooFewRecords, TooLittleText}
-use Rattle.refusals.specs.Codes.{code}
 use Rattle.reading.specs.Charging.{Lent, Made, over}
 use Rattle.reading.specs.Adding.{leafText, valueAt, appendValue, atPath}
 use Rattle.reading.specs.Shape.{Shaped}
@@ -78,25 +77,25 @@ module _ {lent : Lent} {ws text : List ℕ} {here : Here} {p : List Key} {v : Va
     to {r} g = subst (λ (m : Made Value). After lent ws' text' p r m) (sym rule-is) g
 
     -- Too few records.
-    pub few-left : a ≡ TooFew → Goal (Refused (code TooFewRecords))
+    pub few-left : a ≡ TooFew → Goal (Refused TooFewRecords)
     few-left q = to (go agreed)
       where
-        go : {m : Made Value} → Agree text' lent x t c change T m → After lent ws' text' p (Refused (code TooFewRecords)) (over (i .back) m)
+        go : {m : Made Value} → Agree text' lent x t c change T m → After lent ws' text' p (Refused TooFewRecords) (over (i .back) m)
         go (good l b h) = used-or-few (sym b ∙ sym (is .1) ∙ q)
-        go (few b) = stopped refl
+        go (few b) = stopped
         go (little l b) = used-or-few (sym b ∙ sym (is .1) ∙ q)
 
     bytes-lent : lent .bytes ≡ length text
     bytes-lent = ap (λ (l : Lent). l .bytes) (s .lent-is)
 
     -- Too little text.
-    pub little-left : {u : ℕ} → a ≡ Used u → length text < here .bytes + length (leafText x) → Goal (Refused (code TooLittleText))
+    pub little-left : {u : ℕ} → a ≡ Used u → length text < here .bytes + length (leafText x) → Goal (Refused TooLittleText)
     little-left q l = to (go agreed)
       where
-        go : {m : Made Value} → Agree text' lent x t c change T m → After lent ws' text' p (Refused (code TooLittleText)) (over (i .back) m)
+        go : {m : Made Value} → Agree text' lent x t c change T m → After lent ws' text' p (Refused TooLittleText) (over (i .back) m)
         go (good g b h) = absurd (omega (arith, s .stores .fill, bytes-lent))
         go (few b) = used-or-few (sym q ∙ is .1 ∙ b)
-        go (little g b) = stopped refl
+        go (little g b) = stopped
 
     -- Enough of both.
     pub added : {u : ℕ} → a ≡ Used u → length ws' ≡ length ws → valueWords (valueAt x (length t)) ≡ c
@@ -176,7 +175,7 @@ module _ (ws text : List ℕ) (here : Here) (kind : LeafKind) (value : List ℕ)
         (sym len-is)
         (added s x text' (leafText x ++ replicate (length text' - length (t ++ leafText x)) 0) (split s) (long s) c is z lw (words-are s) (whole s) fits)
 
-    pub append-few : a ≡ TooFew → Promise (Refused (code TooFewRecords))
+    pub append-few : a ≡ TooFew → Promise (Refused TooFewRecords)
     append-few z lent p v t s =
         few-left s x text' (leafText x ++ replicate (length text' - length (t ++ leafText x)) 0) (split s) (long s) c is z
 
@@ -188,9 +187,9 @@ module _ (ws text : List ℕ) (here : Here) (kind : LeafKind) (value : List ℕ)
     same : text' ≡ text
     same = et ∙ laid-short text (here .bytes) (leafText x) over-full
 
-    pub unfit-little : {u : ℕ} → a ≡ Used u → Promise (Refused (code TooLittleText))
+    pub unfit-little : {u : ℕ} → a ≡ Used u → Promise (Refused TooLittleText)
     unfit-little z lent p v t s =
         little-left s x text' (replicate (length text - length t) 0) (same ∙ s .stores .full) (ap length same) c is z over-full
 
-    pub unfit-few : a ≡ TooFew → Promise (Refused (code TooFewRecords))
+    pub unfit-few : a ≡ TooFew → Promise (Refused TooFewRecords)
     unfit-few z lent p v t s = few-left s x text' (replicate (length text - length t) 0) (same ∙ s .stores .full) (ap length same) c is z

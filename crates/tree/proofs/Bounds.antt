@@ -93,7 +93,7 @@ module _ {ws text ws' text' : List ℕ} {here : Here} (b : ℕ) (rule : Lent →
     where
       go : {r : Performed} {m : Made Value} → After (lentBy ws text) ws' text' (to (s .path)) r m → Little b (here .records) (s .laid) m → Modest here b r
       go (stood u st) (gives q) = (omega (arith, q .0), omega (arith, q .1, st .stores .fill, s .stands .stores .fill))
-      go (stopped x) q = tt
+      go stopped q = tt
 
 module _ {ws text ws' text' : List ℕ} {here : Here} {r : Performed} (s : Standing ws text here) where
   pub enter-modest : (key : RawKey) (raw : List ℕ) → Does ws text ws' text' here (enters (meantKey key raw)) (further (meantKey key raw)) r

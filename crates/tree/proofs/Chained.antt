@@ -5,7 +5,8 @@ use Prim.Native.Nat.{ℕ}
 use native.Mathlib.Omega.{arith}
 use Rattle.key.specs.Keys.{Key}
 use Rattle.reading.specs.Values.{Value}
-use Rattle.reading.specs.Charging.{Lent, Made, Rule, bind}
+use Rattle.refusals.specs.declared.Refusal.{Refusal}
+use Rattle.reading.specs.Charging.{Lent, Made, refused, Rule, bind}
 use Rattle.reading.specs.Reading.{lentBy}
 use Rattle.tree.specs.declared.Here.{Here}
 use Rattle.tree.specs.declared.Performed.{Performed}
@@ -14,14 +15,14 @@ use Rattle.tree.specs.Stored.{Stands, Standing}
 use Rattle.tree.specs.Commands.{After, stood, stopped, Does, stays}
 use Rattle.tree.proofs.Standing.{some}
 
-pub not-both : {A : Type 0} {here : Here} {number : ℕ} → MadeHere here ≡ Refused number → A
+pub not-both : {A : Type 0} {here : Here} {x : Refusal} → MadeHere here ≡ Refused x → A
 not-both e = absurd (let z : _≡_ {A = ℕ} 0 1 = cc in omega arith)
 
 same-here : {a b : Here} → MadeHere a ≡ MadeHere b → a ≡ b
 same-here e = cc
 
-same-number : {a b : ℕ} → Refused a ≡ Refused b → a ≡ b
-same-number e = cc
+same-refusal : {a b : Refusal} → Refused a ≡ Refused b → a ≡ b
+same-refusal e = cc
 
 module _ {ws text ws1 text1 : List ℕ} {here : Here} (first : Lent → List Key → Rule Value) (to : List Key → List Key) {r1 : Performed}
     (d : Does ws text ws1 text1 here first to r1) where
@@ -31,19 +32,20 @@ module _ {ws text ws1 text1 : List ℕ} {here : Here} (first : Lent → List Key
     where
       go : {r : Performed} {m : Made Value} → After (lentBy ws text) ws1 text1 (to (s .path)) r m → r ≡ MadeHere there → Standing ws1 text1 there
       go (stood u st) q = subst (λ (h : Here). Standing ws1 text1 h) (same-here q) (some st)
-      go (stopped x) q = not-both (sym q)
+      go stopped q = not-both (sym q)
 
   module _ (second whole : Lent → List Key → Rule Value)
       (law : (lent : Lent) (p : List Key) (v : Value) (u : ℕ) (t : List ℕ) → whole lent p v u t ≡ bind (first lent p v u t) (second lent p)) where
     -- The first refuses.
-    pub stops : (to' : List Key → List Key) {ws' text' : List ℕ} {number : ℕ} → r1 ≡ Refused number → Does ws text ws' text' here whole to' (Refused number)
-    stops to' {ws'} {text'} {number} e lent p v t s =
-        subst (λ (m : Made Value). After lent ws' text' (to' p) (Refused number) m) (sym (law lent p v (here .records) t)) (go (d lent p v t s) e)
+    pub stops : (to' : List Key → List Key) {ws' text' : List ℕ} {x : Refusal} → r1 ≡ Refused x → Does ws text ws' text' here whole to' (Refused x)
+    stops to' {ws'} {text'} {x} e lent p v t s =
+        subst (λ (m : Made Value). After lent ws' text' (to' p) (Refused x) m) (sym (law lent p v (here .records) t)) (go (d lent p v t s) e)
       where
-        go : {r : Performed} {m : Made Value} → After lent ws1 text1 (to p) r m → r ≡ Refused number
-            → After lent ws' text' (to' p) (Refused number) (bind m (second lent p))
+        go : {r : Performed} {m : Made Value} → After lent ws1 text1 (to p) r m → r ≡ Refused x
+            → After lent ws' text' (to' p) (Refused x) (bind m (second lent p))
         go (stood u st) q = not-both q
-        go (stopped x) q = stopped (sym (same-number q) ∙ x)
+        go stopped q =
+            subst (λ (z : Refusal). After lent ws' text' (to' p) (Refused x) (refused z)) (sym (same-refusal q)) stopped
 
   -- The second goes on from where the first left off.
   module _ (second whole : Lent → List Key → Rule Value)
@@ -59,4 +61,4 @@ module _ {ws text ws1 text1 : List ℕ} {here : Here} (first : Lent → List Key
             let f : used ≡ there .records = u ∙ ap (λ (i : Here). i .records) (same-here q) in
             subst (λ (n : ℕ). After lent ws' text' (to p) r (second lent (to p) tree n laid)) (sym f)
             (d2 lent (to p) tree laid (subst (λ (i : Here). Stands lent ws1 text1 i (to p) tree laid) (same-here q) st))
-        go (stopped x) q = not-both (sym q)
+        go stopped q = not-both (sym q)

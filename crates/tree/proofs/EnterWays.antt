@@ -7,7 +7,7 @@ use native.Mathlib.Omega.{arith}
 use lib.ListN.{length, replicate, length-append}
 use lib.Dec.{leb}
 use borrow.Author.Tests.{leb-true, leb-false, ne-eqb}
-use Rattle.row.specs.Row.{recordWidth}
+use Rattle.row.specs.Row.{recordWidth, kindWord, uninitializedKind, mapKind}
 use Rattle.decode.specs.Decoding.{decoded}
 use Rattle.decode.specs.declared.Decoded.{Decoded}
 use Rattle.decode.specs.declared.Decoded.the-variants.{Yes, No}
@@ -18,7 +18,6 @@ use Rattle.records.specs.declared.siblings.Position.{Position}
 use Rattle.records.specs.declared.siblings.Position.the-variants.{Found, Between}
 use Rattle.records.specs.declared.store.KeyWords.{KeyWords}
 use Rattle.records.specs.declared.store.Record.{Record}
-use Rattle.row.specs.Row.{kindWord, uninitializedKind, mapKind}
 use Rattle.row.specs.Words.{recordCount, word}
 use Rattle.records.specs.Records.{inserted}
 use Rattle.records.specs.Keys.{meantKey, InText}
@@ -33,7 +32,6 @@ use Rattle.records.proofs.Seeking.{seekNode, insertNode, keyStands}
 use Rattle.records.proofs.Grown.{insert-holds}
 use Rattle.reading.specs.Values.{Value, uninitialized, map, Forest, child}
 use Rattle.refusals.specs.declared.Refusal.the-variants.{TooFewRecords, TooLittleText}
-use Rattle.refusals.specs.Codes.{code}
 use Rattle.reading.specs.Charging.{Lent, Made, made, over, bind, charge}
 use Rattle.reading.specs.Adding.{expectMap, keyText, labelAt, enterNew, atEntry, unchanged, enterKey, atPath}
 use Rattle.reading.specs.Laid.{LaidAll}
@@ -233,11 +231,11 @@ module _ (ws text : List ℕ) (here : Here) (key : RawKey) (raw : List ℕ) {ws1
       by-way : {ws' text' : List ℕ} {r : Performed} → Entered ws1 text here prev next key raw ws' text' r
           → After lent ws' text' (p ++ (k ∷ [])) r (perform lent (enter p k) v (here .records) t)
       by-way {ws'} {text'} (Entered.few l) =
-          subst (λ (m : Made Value). After lent ws' text' (p ++ (k ∷ [])) (Refused (code TooFewRecords)) m)
-          (sym (charged ∙ charge-few lent 1 (keyText k) new (here .records) t (omega (arith, records-lent)))) (stopped refl)
+          subst (λ (m : Made Value). After lent ws' text' (p ++ (k ∷ [])) (Refused TooFewRecords) m)
+          (sym (charged ∙ charge-few lent 1 (keyText k) new (here .records) t (omega (arith, records-lent)))) (stopped)
       by-way {ws'} {text'} (Entered.little room l) =
-          subst (λ (m : Made Value). After lent ws' text' (p ++ (k ∷ [])) (Refused (code TooLittleText)) m)
-          (sym (charged ∙ charge-little lent 1 (keyText k) new (here .records) t (omega (arith, records-lent)) (omega (arith, bytes-lent, st .fill)))) (stopped refl)
+          subst (λ (m : Made Value). After lent ws' text' (p ++ (k ∷ [])) (Refused TooLittleText) m)
+          (sym (charged ∙ charge-little lent 1 (keyText k) new (here .records) t (omega (arith, records-lent)) (omega (arith, bytes-lent, st .fill)))) (stopped)
       by-way {ws'} {text'} (Entered.entered room fits ews et) = entered-new room fits ews et
 
     pub enter-new : {ws' text' : List ℕ} {r : Performed} → Entered ws1 text here prev next key raw ws' text' r → Promise ws' text' r
@@ -255,14 +253,14 @@ prev-inside {ws} {text} {n} k w l e {prev} {next} q =
 
 -- The ways through `enter_new`.
 module _ (ws text : List ℕ) (here : Here) (prev next : ℕ) (key : RawKey) (raw : List ℕ) {b : Bool} (e : b ≡ leb (here .records + 1) (recordCount ws)) where
-  pub new-few : {ws' text' : List ℕ} → b ≡ false → Entered ws text here prev next key raw ws' text' (Refused (code TooFewRecords))
+  pub new-few : {ws' text' : List ℕ} → b ≡ false → Entered ws text here prev next key raw ws' text' (Refused TooFewRecords)
   new-few q = Entered.few (leb-false (here .records + 1) (recordCount ws) (sym e ∙ q))
 
   module _ (q : b ≡ true) {d : Decoded} (ed : d ≡ layAnswer text (here .bytes) (keyText (meantKey key raw))) where
     room : here .records + 1 ≤ recordCount ws
     room = leb-true (here .records + 1) (recordCount ws) (sym e ∙ q)
 
-    pub new-little : {ws' text' : List ℕ} → d ≡ No → Entered ws text here prev next key raw ws' text' (Refused (code TooLittleText))
+    pub new-little : {ws' text' : List ℕ} → d ≡ No → Entered ws text here prev next key raw ws' text' (Refused TooLittleText)
     new-little n = Entered.little room (lay-no text (here .bytes) (keyText (meantKey key raw)) ed n)
 
     pub new-entered : {ws' text' : List ℕ} → text' ≡ laid text (here .bytes) (keyText (meantKey key raw)) → {len : ℕ} → d ≡ Yes len

@@ -21,7 +21,6 @@ use Rattle.reading.specs.Values.{Value, uninitialized, null, noValue, string, m
 use Rattle.refusals.specs.declared.Refusal.{Refusal}
 use Rattle.refusals.specs.declared.Refusal.the-variants.{SequenceOnMap, SequenceOnSingle, MapOnSequence, MapOnString}
 use Rattle.refusals.specs.declared.Refusal.the-variants.{MapOnNull}
-use Rattle.refusals.specs.Codes.{code}
 use Rattle.reading.specs.Charging.{Lent, Made, made, refused, over, Rule}
 use Rattle.reading.specs.Adding.{expectMap, expectSequence, atPath}
 use Rattle.reading.specs.Records.{kind}
@@ -49,7 +48,7 @@ pub data Met (wrap : Forest → Value) (needed : Value → ℕ → List ℕ → 
       → Met wrap needed answer here uninitialized
   serves : {v : Value} (cs : Forest) → v ≡ wrap cs → (kind v ≡ uninitializedKind → ⊥) → answer here (kind v) ≡ MadeHere here
       → ((u : ℕ) (s : List ℕ) → needed v u s ≡ made cs u s) → Met wrap needed answer here v
-  refuses : {v : Value} (x : Refusal) → answer here (kind v) ≡ Refused (code x)
+  refuses : {v : Value} (x : Refusal) → answer here (kind v) ≡ Refused x
       → ((u : ℕ) (s : List ℕ) → needed v u s ≡ refused x) → Met wrap needed answer here v
 
 pub record Need : Type 0 where
@@ -93,7 +92,7 @@ module _ (need : Need) where
     pub data Served : Type 0 where
       served : (cs : Forest) → r ≡ MadeHere here → ((u : ℕ) (s : List ℕ) → need .needed (i .at) u s ≡ made cs u s)
           → Stores ws' text used filled (i .back (need .wrap cs)) t → Served
-      unserved : (x : Refusal) → r ≡ Refused (code x) → ((u : ℕ) (s : List ℕ) → need .needed (i .at) u s ≡ refused x) → Served
+      unserved : (x : Refusal) → r ≡ Refused x → ((u : ℕ) (s : List ℕ) → need .needed (i .at) u s ≡ refused x) → Served
 
     rule-is : (m : Made Forest) → need .needed (i .at) used t ≡ m → atPath p rule v used t ≡ over (i .back) (over (need .wrap) m)
     rule-is m e =
@@ -162,7 +161,7 @@ module _ (need : Need) where
           })))
       go (unserved x a e) =
           subst (λ (m : Made Value). After lent ws' text p r m) (sym (rule-is (s .stores) (s .leads) here er ew (refused x) (e (here .records) t)))
-          (subst (λ (y : Performed). After lent ws' text p y (refused x)) (sym a) (stopped refl))
+          (subst (λ (y : Performed). After lent ws' text p y (refused x)) (sym a) (stopped))
 
   -- What is needed is answered where it was.
   pub needed-here : {ws text : List ℕ} {here there : Here} {ws' : List ℕ} {r : Performed} → Standing ws text here
@@ -252,9 +251,9 @@ module _ (ws : List ℕ) (here : Here) {kd : ℕ} (e : kd ≡ word ws (here .nod
   is-not {k} q = ne-eqb (word ws (here .node) kindWord) k (λ z. q (e ∙ z))
 
   pub null-map : kd ≢ uninitializedKind → kd ≢ mapKind → kd ≢ sequenceKind → kd ≢ stringKind
-      → Refused (code MapOnNull) ≡ mapAnswer here (word ws (here .node) kindWord)
+      → Refused MapOnNull ≡ mapAnswer here (word ws (here .node) kindWord)
   null-map a b c d = rw (is-not a, is-not b, is-not c, is-not d)
 
   pub single-sequence : kd ≢ uninitializedKind → kd ≢ sequenceKind → kd ≢ mapKind
-      → Refused (code SequenceOnSingle) ≡ sequenceAnswer here (word ws (here .node) kindWord)
+      → Refused SequenceOnSingle ≡ sequenceAnswer here (word ws (here .node) kindWord)
   single-sequence a b c = rw (is-not a, is-not b, is-not c)

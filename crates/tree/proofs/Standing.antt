@@ -4,9 +4,8 @@ use mathlib.Core.List.{List, []}
 use Prim.Native.Nat.{ℕ, _/_, _<_, _≤_}
 use native.Mathlib.Omega.{arith}
 use lib.ListN.{length}
-use Rattle.row.specs.Row.{recordWidth}
+use Rattle.row.specs.Row.{recordWidth, kindWord}
 use Rattle.key.specs.Keys.{Key}
-use Rattle.row.specs.Row.{kindWord}
 use Rattle.row.specs.Words.{recordCount, word}
 use Rattle.records.specs.Siblings.{WellFormed}
 use Rattle.records.specs.Nodes.{Nodes, node, plug}

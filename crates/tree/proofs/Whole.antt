@@ -9,9 +9,8 @@ use lib.ListN.{length, getD, replicate, length-append, length-replicate, List·g
 use lib.Seq.{ext-getD, getD-append-add}
 use lib.Dec.{eqb}
 use borrow.Author.Tests.{eq-eqb, ne-eqb}
-use Rattle.row.specs.Row.{recordWidth}
+use Rattle.row.specs.Row.{recordWidth, noValueKind}
 use Rattle.laws.proofs.Lists.{zeros}
-use Rattle.row.specs.Row.{noValueKind}
 use Rattle.row.specs.Words.{word}
 use Rattle.records.specs.Records.{withValue}
 use Rattle.records.specs.Adding.{childless}
@@ -23,7 +22,7 @@ use Rattle.records.proofs.Start.{start-holds}
 use Rattle.reading.specs.Values.{Label, unkeyed, intKey, stringKey, Value, uninitialized, null, noValue, string, map, sequence, Forest, none, child}
 use Rattle.reading.specs.Records.{first, firstChild, recordWords, recordBelow, recordAmong, recordsFrom, layout}
 use Rattle.reading.specs.Running.{accepted}
-use Rattle.reading.specs.Reading.{Outcome, outcome}
+use Rattle.reading.specs.Reading.{Outcome, accepts, outcome}
 use Rattle.reading.proofs.Layouts.{records-at, records-length}
 use Rattle.tree.specs.Nodes.{recordOf, below, nodes}
 use Rattle.tree.specs.Stored.{Stores}
@@ -140,14 +139,14 @@ laid-words {ws} {text} {used} {filled} {v} k =
 
 -- The outcome of an accepted reading is what stands in the buffers.
 pub outcome-is : {ws text : List ℕ} {used filled : ℕ} {v : Value} {t : List ℕ} → Stores ws text used filled v t
-    → outcome (length ws) (length text) (accepted v used t) ≡ record { number = 0; place = 0; records = used; bytes = filled; words = ws; text = text }
+    → outcome (length ws) (length text) (accepted v used t) ≡ record { answer = accepts used filled; words = ws; text = text }
 outcome-is {ws} {text} {used} {filled} {v} {t} k =
     whole (layout used v ++ replicate (length ws - used * recordWidth) 0) (t ++ replicate (length text - length t) 0) (length t)
     (sym (laid-words k)) (sym (k .full)) (sym (k .fill))
   where
     whole : (a b : List ℕ) (n : ℕ) → a ≡ ws → b ≡ text → n ≡ filled
-        → _≡_ {A = Outcome} (record { number = 0; place = 0; records = used; bytes = n; words = a; text = b })
-        (record { number = 0; place = 0; records = used; bytes = filled; words = ws; text = text })
+        → _≡_ {A = Outcome} (record { answer = accepts used n; words = a; text = b })
+        (record { answer = accepts used filled; words = ws; text = text })
     whole a b n p q r = rw (p, q, r)
 
 -- Cleared buffers hold the Uninitialized root; and a NoValue root, once that is written.

@@ -6,7 +6,6 @@ use Rattle.key.specs.Keys.{Key}
 use Rattle.reading.specs.Values.{Value}
 use Rattle.reading.specs.Leaves.{Leaf}
 use Rattle.refusals.specs.declared.Refusal.{Refusal}
-use Rattle.refusals.specs.Codes.{code}
 use Rattle.reading.specs.Charging.{Lent, Rule, Made, made, refused}
 use Rattle.reading.specs.Adding.{appendValue, atPath}
 use Rattle.reading.specs.Scanning.{under, last, enter, needMap, needSequence, add}
@@ -16,12 +15,13 @@ use Rattle.tree.specs.declared.Performed.{Performed}
 use Rattle.tree.specs.declared.Performed.the-variants.{Made as MadeHere, Refused}
 use Rattle.tree.specs.Stored.{Stands}
 
--- The words, the text and the answer after a command: the tree that is made stands there with its counts, and the path leads to the record
--- that is answered; or the answer is the number of the refusal, and what the words and the text hold then is free: `parse` clears both.
+-- The words, the text and the answer after a command: the tree that is made stands there with its counts, and the path
+-- leads to the record that is answered; or the answer is the refusal, and what the words and the text hold then is
+-- free: `parse` clears both.
 pub data After (lent : Lent) (ws text : List ℕ) (path : List Key) : Performed → Made Value → Type 0 where
   stood : {here : Here} {tree : Value} {used : ℕ} {laid : List ℕ} → used ≡ here .records → Stands lent ws text here path tree laid
       → After lent ws text path (MadeHere here) (made tree used laid)
-  stopped : {number : ℕ} {x : Refusal} → number ≡ code x → After lent ws text path (Refused number) (refused x)
+  stopped : {x : Refusal} → After lent ws text path (Refused x) (refused x)
 
 -- A function does as a rule at a path: whatever tree stands in the words and the text and whatever path leads to the record, the words, the
 -- text and the answer are as the rule makes them, and `to path` leads to the record that is answered.
@@ -64,4 +64,4 @@ Countable here m k = (here .records + m < 2 ^ 32) × (here .bytes + k < 2 ^ 32)
 -- What an accepted command adds at most: two records, and as many bytes of text as it was handed.
 abbrev pub Modest : Here → ℕ → Performed → Type 0
 Modest here k (MadeHere there) = (there .records ≤ here .records + 2) × (there .bytes ≤ here .bytes + k)
-Modest here k (Refused number) = Unit {0}
+Modest here k (Refused x) = Unit {0}

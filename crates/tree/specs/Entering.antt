@@ -14,7 +14,6 @@ use Rattle.records.specs.Records.{inserted}
 use Rattle.records.specs.Keys.{meantKey}
 use Rattle.records.specs.Adding.{childless}
 use Rattle.refusals.specs.declared.Refusal.the-variants.{TooFewRecords, TooLittleText}
-use Rattle.refusals.specs.Codes.{code}
 use Rattle.reading.specs.Adding.{keyText}
 use Rattle.tree.specs.declared.Here.{Here}
 use Rattle.tree.specs.declared.Performed.{Performed}
@@ -29,9 +28,9 @@ newKeyWords String offset len = record { kind = stringKeyKind; offset = cond (eq
 -- What entering a new key leaves and answers, by its three ways: too few records, too little text, or a child, Uninitialized, put between prev
 -- and next, with the key's text laid. "of 14 and 15 together, 14"
 pub data Entered (ws text : List ℕ) (here : Here) (prev next : ℕ) (key : RawKey) (raw ws' text' : List ℕ) : Performed → Type 0 where
-  few : recordCount ws < here .records + 1 → Entered ws text here prev next key raw ws' text' (Refused (code TooFewRecords))
+  few : recordCount ws < here .records + 1 → Entered ws text here prev next key raw ws' text' (Refused TooFewRecords)
   little : here .records + 1 ≤ recordCount ws → length text < here .bytes + length (keyText (meantKey key raw))
-      → Entered ws text here prev next key raw ws' text' (Refused (code TooLittleText))
+      → Entered ws text here prev next key raw ws' text' (Refused TooLittleText)
   entered : here .records + 1 ≤ recordCount ws → here .bytes + length (keyText (meantKey key raw)) ≤ length text
       → ws' ≡ inserted ws (here .records) (here .node) prev next
       (record { key = newKeyWords key (here .bytes) (length (keyText (meantKey key raw))); value = childless uninitializedKind })

@@ -9,7 +9,6 @@ use Rattle.records.specs.Records.{withValue}
 use Rattle.records.specs.Adding.{childless}
 use Rattle.refusals.specs.declared.Refusal.the-variants.{SequenceOnMap, SequenceOnSingle, MapOnSequence, MapOnString}
 use Rattle.refusals.specs.declared.Refusal.the-variants.{MapOnNull}
-use Rattle.refusals.specs.Codes.{code}
 use Rattle.tree.specs.declared.Here.{Here}
 use Rattle.tree.specs.declared.Performed.{Performed}
 use Rattle.tree.specs.declared.Performed.the-variants.{Made, Refused}
@@ -19,15 +18,15 @@ abbrev pub mapAnswer : Here → ℕ → Performed
 mapAnswer here kind =
     cond (eqb kind uninitializedKind) (Made here)
     (cond (eqb kind mapKind) (Made here)
-    (cond (eqb kind sequenceKind) (Refused (code MapOnSequence))
-    (cond (eqb kind stringKind) (Refused (code MapOnString)) (Refused (code MapOnNull)))))
+    (cond (eqb kind sequenceKind) (Refused MapOnSequence)
+    (cond (eqb kind stringKind) (Refused MapOnString) (Refused MapOnNull))))
 
 -- "Uninitialized becomes Sequence, a Sequence serves, the rest refuse (6, 7)"
 abbrev pub sequenceAnswer : Here → ℕ → Performed
 sequenceAnswer here kind =
     cond (eqb kind uninitializedKind) (Made here)
     (cond (eqb kind sequenceKind) (Made here)
-    (cond (eqb kind mapKind) (Refused (code SequenceOnMap)) (Refused (code SequenceOnSingle))))
+    (cond (eqb kind mapKind) (Refused SequenceOnMap) (Refused SequenceOnSingle)))
 
 -- The words after it: an Uninitialized record n is of the kind that is needed.
 abbrev pub becomes : List ℕ → ℕ → ℕ → List ℕ

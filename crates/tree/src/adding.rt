@@ -11,13 +11,12 @@ use crate::Performed;
 use crate::entering;
 use crate::laying;
 use crate::needing;
-use crate::refusals;
 use decode::Decoded;
 use records::adding;
 use records::adding::Appended;
 use records::keys::RawKey;
-use records::store;
 use records::store::ValueWords;
+use refusals::Refusal;
 
 // The kind of a value that is added; a String is a raw segment, which stands beside it, decoded.
 pub enum LeafKind {
@@ -71,14 +70,14 @@ pub fn append_value(
                     bytes: here.bytes + len as u32,
                     node: here.node,
                 }),
-                Appended::TooFew => Performed::Refused(refusals::TOO_FEW_RECORDS),
+                Appended::TooFew => Performed::Refused(Refusal::TooFewRecords),
             }
         }
         Decoded::No => {
             let new = value_words(kind, 0, 0);
             match adding::append(words, text, here.records, here.node, new) {
-                Appended::Used(_) => Performed::Refused(refusals::TOO_LITTLE_TEXT),
-                Appended::TooFew => Performed::Refused(refusals::TOO_FEW_RECORDS),
+                Appended::Used(_) => Performed::Refused(Refusal::TooLittleText),
+                Appended::TooFew => Performed::Refused(Refusal::TooFewRecords),
             }
         }
     }
@@ -98,7 +97,7 @@ pub fn push(
 {
     match needing::expect_sequence(words, here) {
         Performed::Made(there) => append_value(words, text, there, kind, value),
-        Performed::Refused(number) => Performed::Refused(number),
+        Performed::Refused(refusal) => Performed::Refused(refusal),
     }
 }
 
@@ -119,6 +118,6 @@ pub fn insert_unique(
 {
     match entering::enter(words, text, here, key, raw) {
         Performed::Made(there) => append_value(words, text, there, kind, value),
-        Performed::Refused(number) => Performed::Refused(number),
+        Performed::Refused(refusal) => Performed::Refused(refusal),
     }
 }

@@ -11,15 +11,14 @@ use crate::Here;
 use crate::Performed;
 use crate::laying;
 use crate::needing;
-use crate::refusals;
 use decode::Decoded;
 use records::keys::RawKey;
 use records::siblings;
 use records::siblings::Position;
-use records::store;
 use records::store::KeyWords;
 use records::store::Record;
 use records::store::ValueWords;
+use refusals::Refusal;
 
 // The words of a new key whose text, if it has any, is laid at an offset with a length.
 fn key_words(key: RawKey, offset: u32, len: u32) -> KeyWords
@@ -81,10 +80,10 @@ fn enter_new(
                     node: here.records,
                 })
             }
-            Decoded::No => Performed::Refused(refusals::TOO_LITTLE_TEXT),
+            Decoded::No => Performed::Refused(Refusal::TooLittleText),
         }
     } else {
-        Performed::Refused(refusals::TOO_FEW_RECORDS)
+        Performed::Refused(Refusal::TooFewRecords)
     }
 }
 
@@ -105,6 +104,6 @@ pub fn enter(words: &mut [u32], text: &mut [u8], here: Here, key: RawKey, raw: &
             }),
             Position::Between(prev, next) => enter_new(words, text, here, prev, next, key, raw),
         },
-        Performed::Refused(number) => Performed::Refused(number),
+        Performed::Refused(refusal) => Performed::Refused(refusal),
     }
 }

@@ -1,11 +1,13 @@
 // The commands of a reading on the tree that the lent records and text hold: a map needed, a sequence needed, a key entered, a value added.
 // What each leaves and answers is what `perform` of the definitions makes of that tree (specs/Commands).
-// Below it stand the store of records (records), the keys (key), decoding (decode) and the definitions (reading).
+// Below it stand the store of records (records), a record's row (row), the refusals (refusals), the keys (key),
+// decoding (decode), the definitions (reading) and laws.
 pub mod adding; // a value added
 pub mod entering; // a key entered
 mod laying; // text laid behind what is used
 pub mod needing; // a map or a sequence needed
-pub mod refusals; // the numbers of the refusals
+
+use refusals::Refusal;
 
 // Where the tree stands: how many records and bytes of text it uses, and the record that a command is for.
 pub struct Here {
@@ -14,8 +16,8 @@ pub struct Here {
     pub node: u32,
 }
 
-// The answer of a command, in the place of the source's `Result`: where the tree stands then, or a refusal's number.
+// The answer of a command, in the place of the source's `Result`: where the tree stands then, or a refusal.
 pub enum Performed {
     Made(Here),
-    Refused(u32),
+    Refused(Refusal),
 }

@@ -8,9 +8,9 @@ ghost use Rattle.tree.specs.Needing.{mapAnswer, sequenceAnswer, becomes}
 ghost use Rattle.tree.specs.Commands.{Does, needsMap, needsSequence, stays};
 use crate::Here;
 use crate::Performed;
-use crate::refusals;
 use records::store;
 use records::store::ValueWords;
+use refusals::Refusal;
 
 // Needs a map at the record: Uninitialized becomes Map, a Map serves, the rest refuse. Nothing else changes.
 pub fn expect_map(words: &mut [u32], here: Here) -> Performed
@@ -33,12 +33,12 @@ pub fn expect_map(words: &mut [u32], here: Here) -> Performed
         return Performed::Made(here);
     }
     if kind == row::SEQUENCE {
-        return Performed::Refused(refusals::MAP_ON_SEQUENCE);
+        return Performed::Refused(Refusal::MapOnSequence);
     }
     if kind == row::STRING {
-        return Performed::Refused(refusals::MAP_ON_STRING);
+        return Performed::Refused(Refusal::MapOnString);
     }
-    Performed::Refused(refusals::MAP_ON_NULL)
+    Performed::Refused(Refusal::MapOnNull)
 }
 
 // Needs a sequence at the record, for `[]`: Uninitialized becomes Sequence, a Sequence serves, the rest refuse. Nothing else changes.
@@ -62,7 +62,7 @@ pub fn expect_sequence(words: &mut [u32], here: Here) -> Performed
         return Performed::Made(here);
     }
     if kind == row::MAP {
-        return Performed::Refused(refusals::SEQUENCE_ON_MAP);
+        return Performed::Refused(Refusal::SequenceOnMap);
     }
-    Performed::Refused(refusals::SEQUENCE_ON_SINGLE)
+    Performed::Refused(Refusal::SequenceOnSingle)
 }

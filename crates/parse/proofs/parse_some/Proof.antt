@@ -1,4 +1,5 @@
-use Rattle.parse.proofs.Outcomes.{start-ready, some-accepted, some-refused}
+use native.Mathlib.Omega.{arith}
+use Rattle.parse.proofs.Outcomes.{start-ready, some-accepted, place-inside, some-refused}
 use borrow.Author.Needs.{needs}
 use Rattle.parse.proofs.parse_some.Statement.{statement}
 use Rattle.parse.proofs.parse_some.Tie as tie
@@ -11,8 +12,19 @@ parse-pairs-requires c κs =
 enum-known-here : tie.Need-enum-known-here
 enum-known-here c = search needs
 
-enum-known-number : tie.Need-enum-known-number
-enum-known-number c = search needs
+enum-known-refusal : tie.Need-enum-known-refusal
+enum-known-refusal c = search needs
+
+cast-at : tie.Need-cast-at
+cast-at c =
+    let at-parse-pairs = c .before .before .before .before .before .before .before in
+    let start = at-parse-pairs .before .before .before .before .before .before in
+    omega (
+      arith,
+      place-inside (start .args .config) (start .pre .1) (start .pre .2) (start .pre .3) (start .pre .4) (start .pre .0) _ _
+          (at-parse-pairs .parse-pairs .kept .1 .1 .0) (at-parse-pairs .parse-pairs .kept .1 .1 .1 .0) (at-parse-pairs .parse-pairs .ensures)
+          (c .before .refusal .given .1),
+    )
 
 clear-words-requires : tie.Need-clear-words-requires
 clear-words-requires c κs = search needs
@@ -43,12 +55,12 @@ same-length-4 c = search needs
 returns-2 : tie.Need-returns-2
 returns-2 c =
     let at-clear-words = c .before .before .before .before .before .before in
-    let at-number = at-clear-words .before .before .before in
-    let at-parse-pairs = at-number .before .before .before .before .before .before in
+    let at-refusal = at-clear-words .before .before .before in
+    let at-parse-pairs = at-refusal .before .before .before .before .before .before in
     let start = at-parse-pairs .before .before .before .before .before .before in
     some-refused (start .args .config) (start .pre .1) (start .pre .2) (start .pre .3) (start .pre .4) (start .pre .0) _ _
     (at-parse-pairs .parse-pairs .kept .1 .1 .0) (at-parse-pairs .parse-pairs .kept .1 .1 .1 .0) (at-parse-pairs .parse-pairs .ensures)
-    (at-number .number .given .1) (at-clear-words .clear-words .ensures) (c .before .before .clear-text .ensures)
+    (at-refusal .refusal .given .1) (at-clear-words .clear-words .ensures) (c .before .before .clear-text .ensures)
 
 pub parse-some-spec : {M : Type 1} → statement M
 parse-some-spec =
@@ -56,7 +68,8 @@ parse-some-spec =
     (tie.spec
     parse-pairs-requires
     enum-known-here
-    enum-known-number
+    enum-known-refusal
+    cast-at
     clear-words-requires
     clear-text-requires
     same-length

@@ -28,8 +28,8 @@ parse-key-requires c κs =
       start .pre .1,
     )
 
-enum-known-number : tie.Need-enum-known-number
-enum-known-number c = search needs
+enum-known-refusal : tie.Need-enum-known-refusal
+enum-known-refusal c = search needs
 
 same-length : tie.Need-same-length
 same-length c = search needs
@@ -55,7 +55,7 @@ returns-2 c =
     let at-expect-map = c .before .before .before .before .before in
     let start = at-expect-map .before .before .before .before .before .before .before in
     as-level (refused-turns (λ path. needMap path) (λ path. path) (at-expect-map .expect-map .ensures .1 (start .args .text .now))
-    (c .before .number .given .1) (inKey (start .args .config) (start .args .input .now) (start .args .nested)))
+    (c .before .refusal .given .1) (inKey (start .args .config) (start .args .input .now) (start .args .nested)))
 
 pub open-key-spec : {M : Type 1} → statement M
 open-key-spec =
@@ -64,7 +64,7 @@ open-key-spec =
     expect-map-requires
     enum-known-there
     parse-key-requires
-    enum-known-number
+    enum-known-refusal
     same-length
     same-length-2
     returns

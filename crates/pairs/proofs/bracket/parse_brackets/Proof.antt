@@ -26,8 +26,8 @@ parse-sequence-value-requires c κs =
       start .pre .1,
     )
 
-enum-known-number : tie.Need-enum-known-number
-enum-known-number c = search needs
+enum-known-refusal : tie.Need-enum-known-refusal
+enum-known-refusal c = search needs
 
 same-length : tie.Need-same-length
 same-length c = search needs
@@ -53,7 +53,7 @@ returns-2 c =
     let at-expect-sequence = c .before .before .before .before .before in
     let start = at-expect-sequence .before .before .before .before .before in
     refused-turns (λ path. needSequence path) (λ path. path) (at-expect-sequence .expect-sequence .ensures .1 (start .args .text .now))
-    (c .before .number .given .1) (λ path. afterBrackets path)
+    (c .before .refusal .given .1) (λ path. afterBrackets path)
 
 pub parse-brackets-spec : {M : Type 1} → statement M
 parse-brackets-spec =
@@ -62,7 +62,7 @@ parse-brackets-spec =
     expect-sequence-requires
     enum-known-there
     parse-sequence-value-requires
-    enum-known-number
+    enum-known-refusal
     same-length
     same-length-2
     returns

@@ -33,8 +33,8 @@ parse-nested-key-requires c κs =
       start .pre .3,
     )
 
-enum-known-number : tie.Need-enum-known-number
-enum-known-number c = search needs
+enum-known-refusal : tie.Need-enum-known-refusal
+enum-known-refusal c = search needs
 
 same-length : tie.Need-same-length
 same-length c = search needs
@@ -66,7 +66,7 @@ returns-2 c =
     let at-enter = c .before .before .before .before .before .before .before in
     let start = at-enter .before .before .before .before .before .before in
     refused-turns (λ path. enter path (decodedKey (start .args .input .now) (start .args .key)))
-    (λ path. path ++ ((decodedKey (start .args .input .now) (start .args .key)) ∷ [])) (at-enter .enter .ensures) (c .before .number .given .1)
+    (λ path. path ++ ((decodedKey (start .args .input .now) (start .args .key)) ∷ [])) (at-enter .enter .ensures) (c .before .refusal .given .1)
     (λ path. bracket (path ++ ((decodedKey (start .args .input .now) (start .args .key)) ∷ [])) 0
     (segment (start .args .input .now) (start .args .cursor .end) (start .args .cursor .place)))
 
@@ -77,7 +77,7 @@ enter-root-spec =
     enter-requires
     enum-known-there
     parse-nested-key-requires
-    enum-known-number
+    enum-known-refusal
     same-length
     same-length-2
     returns

@@ -38,8 +38,8 @@ loop-again c =
     let at-loop = at-parse-pair .before .before .before .before in
     rooting-more (at-loop .loop .inv) (at-parse-pair .parse-pair .ensures) (c .before .next .given .1) (search needs) (search needs)
 
-enum-known-number : tie.Need-enum-known-number Inv-loop μ-loop
-enum-known-number c = search needs
+enum-known-refusal : tie.Need-enum-known-refusal Inv-loop μ-loop
+enum-known-refusal c = search needs
 
 same-length : tie.Need-same-length Inv-loop μ-loop
 same-length c =
@@ -57,7 +57,7 @@ returns : tie.Need-returns Inv-loop μ-loop
 returns c =
     let at-parse-pair = c .before .before .before .before .before .before .before in
     let at-loop = at-parse-pair .before .before .before .before in
-    rooting-refused (at-loop .loop .inv) (at-parse-pair .parse-pair .ensures) (c .before .number .given .1)
+    rooting-refused (at-loop .loop .inv) (at-parse-pair .parse-pair .ensures) (c .before .refusal .given .1)
 
 same-length-3 : tie.Need-same-length-3 Inv-loop μ-loop
 same-length-3 c = c .before .loop .inv .words
@@ -79,7 +79,7 @@ parse-pairs-spec =
     enum-known-next
     loop-less
     loop-again
-    enum-known-number
+    enum-known-refusal
     same-length
     same-length-2
     returns

@@ -27,8 +27,8 @@ append-value-requires c κs =
       (omega (arith, m .0, start .pre .1 .0), omega (arith, m .1, start .pre .1 .1)),
     )
 
-enum-known-number : tie.Need-enum-known-number
-enum-known-number c = search needs
+enum-known-refusal : tie.Need-enum-known-refusal
+enum-known-refusal c = search needs
 
 same-length : tie.Need-same-length
 same-length c = search needs
@@ -55,13 +55,13 @@ same-length-4 c = search needs
 
 returns-2 : tie.Need-returns-2
 returns-2 c =
-    let at-number = c .before in
-    let at-enter = at-number .before .before .before .before .before .before in
+    let at-refusal = c .before in
+    let at-enter = at-refusal .before .before .before .before .before .before in
     let start = at-enter .before .before .before .before .before .before .before in
     let key = meantKey (start .args .key) (start .args .raw .now) in
     let x = leafOf (start .args .kind) (start .args .value .now) in
     stops (enters key) (further key) (at-enter .enter .ensures .0) (λ lent path. appends x lent (further key path)) (inserts key x)
-    (λ lent. insert-composed lent key x) (further key) (at-number .number .given .1)
+    (λ lent. insert-composed lent key x) (further key) (at-refusal .refusal .given .1)
 
 pub insert-unique-spec : {M : Type 1} → statement M
 insert-unique-spec =
@@ -70,7 +70,7 @@ insert-unique-spec =
     enter-requires
     enum-known-there
     append-value-requires
-    enum-known-number
+    enum-known-refusal
     same-length
     same-length-2
     returns

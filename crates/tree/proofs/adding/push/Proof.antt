@@ -31,8 +31,8 @@ append-value-requires c κs =
           (start .pre .1),
     )
 
-enum-known-number : tie.Need-enum-known-number
-enum-known-number c = search needs
+enum-known-refusal : tie.Need-enum-known-refusal
+enum-known-refusal c = search needs
 
 same-length : tie.Need-same-length
 same-length c = search needs
@@ -55,12 +55,12 @@ same-length-3 c = search needs
 
 returns-2 : tie.Need-returns-2
 returns-2 c =
-    let at-number = c .before in
-    let at-expect-sequence = at-number .before .before .before .before in
+    let at-refusal = c .before in
+    let at-expect-sequence = at-refusal .before .before .before .before in
     let start = at-expect-sequence .before .before .before .before .before in
     let x = leafOf (start .args .kind) (start .args .value .now) in
     stops needsSequence stays (at-expect-sequence .expect-sequence .ensures .1 (start .args .text .now)) (appends x) (pushes x) (λ lent. push-composed lent x)
-    stays (at-number .number .given .1)
+    stays (at-refusal .refusal .given .1)
 
 pub push-spec : {M : Type 1} → statement M
 push-spec =
@@ -69,7 +69,7 @@ push-spec =
     expect-sequence-requires
     enum-known-there
     append-value-requires
-    enum-known-number
+    enum-known-refusal
     same-length
     same-length-2
     returns

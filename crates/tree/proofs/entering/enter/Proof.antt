@@ -48,8 +48,8 @@ enter-new-requires c κs =
       start .pre .1,
     )
 
-enum-known-number : tie.Need-enum-known-number
-enum-known-number c = search needs
+enum-known-refusal : tie.Need-enum-known-refusal
+enum-known-refusal c = search needs
 
 same-length : tie.Need-same-length
 same-length c = search needs
@@ -93,12 +93,12 @@ same-length-5 c = search needs
 
 returns-3 : tie.Need-returns-3
 returns-3 c =
-    let at-number = c .before in
-    let at-expect-map = at-number .before .before .before .before in
+    let at-refusal = c .before in
+    let at-expect-map = at-refusal .before .before .before .before in
     let start = at-expect-map .before .before .before .before .before in
     let key = meantKey (start .args .key) (start .args .raw .now) in (
       stops needsMap stays (at-expect-map .expect-map .ensures .1 (start .args .text .now)) (λ lent path. atPath path (enterKey lent key)) (enters key)
-          (λ lent. enter-composed lent key) (further key) (at-number .number .given .1),
+          (λ lent. enter-composed lent key) (further key) (at-refusal .refusal .given .1),
       tt,
     )
 
@@ -112,7 +112,7 @@ enter-spec =
     enum-known-m
     enum-known-prev
     enter-new-requires
-    enum-known-number
+    enum-known-refusal
     same-length
     same-length-2
     returns
