@@ -71,12 +71,12 @@ module _ (config : Config) (input words text out : List ℕ) (lent : Lent words 
   fits : ((i : ℕ) → getD ((reading config input words text) .words) i 0 < 2 ^ 32) → length (listing (reading config input words text)) ≤ length out
   fits h = omega (arith, room config input words text (narrow h), used .0, used .1, lent .output)
 
-  pub listing-written : (words′ text′ : List ℕ) {parsed : Parsed} {answer : Reading}
+  pub listing-written : (words′ text′ : List ℕ) (parsed : Parsed) {answer : Reading}
       → outcomeOf parsed words′ text′ ≡ reading config input words text → answer ≡ answerOf parsed → ((i : ℕ) → getD words′ i 0 < 2 ^ 32)
       → (out′ : List ℕ) {told : Written} {r : ℕ} → told ≡ answerFor (boundedListing (outcomeFrom answer words′ text′)) out
       → out′ ≡ filled (boundedListing (outcomeFrom answer words′ text′)) out → r ≡ counted told
       → WroteAll (listing (reading config input words text)) out out′ r
-  listing-written words′ text′ {answer = answer} read is u32s out′ {r = r} answered output count =
+  listing-written words′ text′ parsed {answer = answer} read is u32s out′ {r = r} answered output count =
       let o = outcomeFrom answer words′ text′ in
       let e : o ≡ reading config input words text = ap (λ a. outcomeFrom a words′ text′) is ∙ read in
       let whole : boundedListing o ≡ listing (reading config input words text) = ap boundedListing e ∙ complete config input words text .whole in
