@@ -1,5 +1,5 @@
--- The answer of `parse` as document 01's result: 'Settings and the lent buffers', "The result gives number (0 accepted), place (0 if accepted),
--- records used and text bytes used, the last two 0 on refusal."
+-- The answer of `parse` as document 01's result: 'Settings and the lent buffers', "The result gives number (0 accepted),
+-- place (0 if accepted), records used and text bytes used, the last two 0 on refusal."
 use Prim.Native.Nat.{ℕ}
 use mathlib.Core.List.{List}
 use Rattle.reading.specs.declared.Reading.{Reading}
@@ -7,6 +7,7 @@ use Rattle.reading.specs.Reading.{Outcome, accepts, refuses}
 use Rattle.parse.specs.declared.Parsed.{Parsed}
 use Rattle.parse.specs.declared.Parsed.the-variants.{Accepted, Refused}
 
+-- The answer in numbers.
 abbrev pub answerOf : Parsed → Reading
 answerOf (Accepted records bytes) = accepts records bytes
 answerOf (Refused x place) = refuses x place
