@@ -1,5 +1,5 @@
-// The head of the listing program's input: the settings of a reading, and where the query string starts. Its definition is specs/Heads.
-// Below it stand digits and texts as bytes (ascii) and laws.
+// The head of the listing program's input: the settings of a reading, and where the query string starts. Its definition
+// is specs/Heads. Below it stand digits and texts as bytes (ascii) and laws.
 ghost use mathlib.Core.Path.{_≡_};
 ghost use mathlib.Core.Bool.{true};
 ghost use Prim.Native.Nat.{_-_, _<_, _≤_};

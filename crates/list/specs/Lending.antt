@@ -18,12 +18,13 @@ lentBytes = 65535
 abbrev pub longestHead : ℕ
 longestHead = 17
 
--- The longest query string that the program reads whole. It is the program's own limit, named apart from that of a reading (`maxLen`), which
--- is no greater now: so a longer query string is refused (specs/Enough).
+-- The longest query string that the program reads whole. It is the program's own limit, named apart from that of a
+-- reading (`maxLen`), which is no greater now: so a longer query string is refused (specs/Enough).
 abbrev pub longestQuery : ℕ
 longestQuery = 65535
 
--- What the program reads of its input: the longest head, and 65,536 bytes, of which the last shows that a query string is longer than that.
+-- What the program reads of its input: the longest head, and 65,536 bytes, of which the last shows that a query string
+-- is longer than that.
 abbrev pub readBytes : ℕ
 readBytes = longestHead + (longestQuery + 1)
 
@@ -41,7 +42,8 @@ abbrev pub counted : Written → ℕ
 counted (Whole n) = n
 counted Cut = 0
 
--- These bytes were written from the output's start on, none was cut, all after them is as it was, and their number is told.
+-- These bytes were written from the output's start on, none was cut, all after them is as it was, and their number is
+-- told.
 pub record WroteAll (bytes out out′ : List ℕ) (n : ℕ) : Type 0 where
   pub count : n ≡ length bytes
   pub output : out′ ≡ bytes ++ drop (length bytes) out

@@ -1,6 +1,6 @@
-// The listing program of document 01: reads a head and a query string from standard input and prints the listing of its reading.
-// What it prints is specs/Reply, what it lends specs/Lending.
-// Below it stand the head's reader (head), the reader of query strings (parse) and the listing's writers (listing, output).
+// The listing program of document 01: reads a head and a query string from standard input and prints the listing of its
+// reading. What it prints is specs/Reply, what it lends specs/Lending. Below it stand the head's reader (head), the
+// reader of query strings (parse) and the listing's writers (listing, output).
 ghost use mathlib.Core.Path.{_≡_};
 ghost use Rattle.reading.specs.Reading.{reading};
 ghost use Rattle.listing.specs.Listing.{listing};
@@ -33,7 +33,8 @@ fn count(written: Written) -> usize
     }
 }
 
-// Reads a query string into words and text, and writes the listing of the outcome. The rest of the output stays as it was.
+// Reads a query string into words and text, and writes the listing of the outcome. The rest of the output stays as it
+// was.
 fn respond_to(
     query: &[u8],
     config: Config,
@@ -42,7 +43,9 @@ fn respond_to(
     out: &mut [u8],
 ) -> usize
     requires { ⌜ Lent (now words) (now text) (now out) ⌝ }
-    ensures { λ r. ⌜ WroteAll (listing (reading config (now (query .entry)) (now (words .entry)) (now (text .entry)))) (now (out .entry)) (now (out .exit)) r ⌝ }
+    ensures { λ r. ⌜ WroteAll
+        (listing (reading config (now (query .entry)) (now (words .entry)) (now (text .entry))))
+        (now (out .entry)) (now (out .exit)) r ⌝ }
 {
     let answer = parse::parse(query, config, words, text).answer();
     count(listing::list(answer, words, text, out))
@@ -51,7 +54,8 @@ fn respond_to(
 // Writes what the program prints for an input. The rest of the output stays as it was.
 fn respond(input: &[u8], words: &mut [u32], text: &mut [u8], out: &mut [u8]) -> usize
     requires { ⌜ Lent (now words) (now text) (now out) ⌝ }
-    ensures { λ r. ⌜ WroteAll (reply (now (input .entry)) (now (words .entry)) (now (text .entry))) (now (out .entry)) (now (out .exit)) r ⌝ }
+    ensures { λ r. ⌜ WroteAll (reply (now (input .entry)) (now (words .entry)) (now (text .entry)))
+        (now (out .entry)) (now (out .exit)) r ⌝ }
 {
     match head::parse_head(input) {
         Head::Bad => count(listing::list_bad_head(out)),

@@ -9,8 +9,8 @@ use Rattle.reading.specs.declared.Reading.{Reading}
 use Rattle.reading.specs.Reading.{Outcome}
 use Rattle.listing.specs.Listing.{answerLines, valueLines}
 
--- The lines of each value from the root on, but of no more values than the words make records. Words that no reading left may lead round in a
--- circle, and this ends the walk then.
+-- The lines of each value from the root on, but of no more values than the words make records. Words that no reading
+-- left may lead round in a circle, and this ends the walk then.
 abbrev pub boundedValues : List ℕ → List ℕ → List (List ℕ)
 boundedValues words text = take (recordCount words) (valueLines words text)
 

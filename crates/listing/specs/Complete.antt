@@ -1,5 +1,5 @@
--- The headline: of the outcome of any reading, accepted or refused, `list` writes exactly document 01's listing. Proved in proofs/Complete as
--- `complete`.
+-- The headline: of the outcome of any reading, accepted or refused, `list` writes exactly document 01's listing. Proved
+-- in proofs/Complete as `complete`.
 use Prim.Native.Nat.{ℕ, _≤_}
 use mathlib.Core.Path.{_≡_}
 use mathlib.Core.List.{List, _++_}
@@ -15,11 +15,14 @@ use Rattle.output.specs.Output.{filled, answerFor}
 pub record Listing (o : Outcome) : Type 0 where
   -- no value is left out
   pub whole : boundedListing o ≡ listing o
-  -- so in an output that is long enough it leaves the listing and all after it as it was, and answers the listing's length
+  -- so in an output that is long enough it leaves the listing and all after it as it was, and answers the listing's
+  -- length
   pub output :
       (out : List ℕ) → length (listing o) ≤ length out
       → filled (boundedListing o) out ≡ listing o ++ drop (length (listing o)) out
-  pub answered : (out : List ℕ) → length (listing o) ≤ length out → answerFor (boundedListing o) out ≡ Whole (length (listing o))
+  pub answered :
+      (out : List ℕ) → length (listing o) ≤ length out
+      → answerFor (boundedListing o) out ≡ Whole (length (listing o))
   -- and of a refusal the listing is the first four lines only
   pub refused : 1 ≤ o .answer .number → listing o ≡ answerLines (o .answer)
 

@@ -1,7 +1,7 @@
 // The listing of a reading's outcome, as document 01's listing program prints it: a library over slices.
-// The listing is specs/Listing; that `list` writes it of every reading is specs/Complete, and how long it is specs/Room.
-// Below it stand the writers into a lent output (output), a record's row (row), the definitions of a reading (reading)
-// and what these stand on.
+// The listing is specs/Listing; that `list` writes it of every reading is specs/Complete, and how long it is
+// specs/Room. Below it stand the writers into a lent output (output), a record's row (row), the definitions of a
+// reading (reading) and what these stand on.
 mod lines; // a value's own lines
 mod values; // the walk over the values
 
@@ -23,11 +23,14 @@ fn write_answer(answer: Reading, out: &mut [u8]) -> usize
     numbers::write_number(b"bytes=", answer.bytes as usize, out, fourth)
 }
 
-// Writes the listing of an outcome: the answer's four numbers and, if it is accepted, the values that words and text hold. Where the
-// output is too short it holds the listing's first bytes; where it is longer, its further elements stay as they were.
+// Writes the listing of an outcome: the answer's four numbers and, if it is accepted, the values that words and text
+// hold. Where the output is too short it holds the listing's first bytes; where it is longer, its further elements stay
+// as they were.
 pub fn list(answer: Reading, words: &[u32], text: &[u8], out: &mut [u8]) -> Written
-    ensures told { λ r. ⌜ r ≡ answerFor (boundedListing (outcomeFrom answer (now (words .entry)) (now (text .entry)))) (now (out .entry)) ⌝ }
-    ensures output { λ _. ⌜ now (out .exit) ≡ filled (boundedListing (outcomeFrom answer (now (words .entry)) (now (text .entry)))) (now (out .entry)) ⌝ }
+    ensures told { λ r. ⌜ r ≡ answerFor
+        (boundedListing (outcomeFrom answer (now (words .entry)) (now (text .entry)))) (now (out .entry)) ⌝ }
+    ensures output { λ _. ⌜ now (out .exit) ≡ filled
+        (boundedListing (outcomeFrom answer (now (words .entry)) (now (text .entry)))) (now (out .entry)) ⌝ }
 {
     let at = write_answer(answer, out);
     let end = values::write_values(answer.number, words, text, out, at);

@@ -12,7 +12,8 @@ use output::numbers;
 
 // Writes a value's key: `-` for none, `i` and an Int's value, or `s` and a String's bytes.
 fn write_key(words: &[u32], text: &[u8], n: u32, keyed: bool, out: &mut [u8], at: usize) -> usize
-    ensures { λ r. ⌜ Puts (keyItem (keyShown keyed (now (words .entry)) (now (text .entry)) n)) (page (now (out .entry)) at) (page (now (out .exit)) r) ⌝ }
+    ensures { λ r. ⌜ Puts (keyItem (keyShown keyed (now (words .entry)) (now (text .entry)) n))
+        (page (now (out .entry)) at) (page (now (out .exit)) r) ⌝ }
 {
     if !keyed {
         return output::write_byte(b'-', out, at);
@@ -30,7 +31,8 @@ fn write_key(words: &[u32], text: &[u8], n: u32, keyed: bool, out: &mut [u8], at
 
 // Writes the name of a kind.
 fn write_kind(kind: u32, out: &mut [u8], at: usize) -> usize
-    ensures { λ r. ⌜ Puts (ascii (kindName (byKind kind [] noEntries noElements))) (page (now (out .entry)) at) (page (now (out .exit)) r) ⌝ }
+    ensures { λ r. ⌜ Puts (ascii (kindName (byKind kind [] noEntries noElements)))
+        (page (now (out .entry)) at) (page (now (out .exit)) r) ⌝ }
 {
     if kind == row::MAP {
         return output::write_bytes(b"map", out, at);
@@ -52,7 +54,8 @@ fn write_kind(kind: u32, out: &mut [u8], at: usize) -> usize
 
 // Writes a String's bytes, or `-` for a value of another kind.
 fn write_text(words: &[u32], text: &[u8], n: u32, out: &mut [u8], at: usize) -> usize
-    ensures { λ r. ⌜ Puts (textItem (childless (now (words .entry)) (now (text .entry)) n)) (page (now (out .entry)) at) (page (now (out .exit)) r) ⌝ }
+    ensures { λ r. ⌜ Puts (textItem (childless (now (words .entry)) (now (text .entry)) n))
+        (page (now (out .entry)) at) (page (now (out .exit)) r) ⌝ }
 {
     let kind = row::word_or_zero(words, n, row::KIND);
     if kind != row::STRING {
@@ -72,8 +75,8 @@ fn write_key_line(
     out: &mut [u8],
     at: usize,
 ) -> usize
-    ensures { λ r. ⌜ Puts (line "key=" (keyItem (keyShown keyed (now (words .entry)) (now (text .entry)) n))) (page (now (out .entry)) at)
-        (page (now (out .exit)) r) ⌝ }
+    ensures { λ r. ⌜ Puts (line "key=" (keyItem (keyShown keyed (now (words .entry)) (now (text .entry)) n)))
+        (page (now (out .entry)) at) (page (now (out .exit)) r) ⌝ }
 {
     let item = output::write_bytes(b"key=", out, at);
     let end = write_key(words, text, n, keyed, out, item);
@@ -82,7 +85,8 @@ fn write_key_line(
 
 // Writes the line of a value's kind.
 fn write_kind_line(words: &[u32], n: u32, out: &mut [u8], at: usize) -> usize
-    ensures { λ r. ⌜ Puts (line "kind=" (ascii (kindName (byKind (word (now (words .entry)) n kindWord) [] noEntries noElements))))
+    ensures { λ r. ⌜ Puts (line "kind="
+        (ascii (kindName (byKind (word (now (words .entry)) n kindWord) [] noEntries noElements))))
         (page (now (out .entry)) at) (page (now (out .exit)) r) ⌝ }
 {
     let item = output::write_bytes(b"kind=", out, at);
@@ -92,8 +96,8 @@ fn write_kind_line(words: &[u32], n: u32, out: &mut [u8], at: usize) -> usize
 
 // Writes the line of a value's text.
 fn write_text_line(words: &[u32], text: &[u8], n: u32, out: &mut [u8], at: usize) -> usize
-    ensures { λ r. ⌜ Puts (line "text=" (textItem (childless (now (words .entry)) (now (text .entry)) n))) (page (now (out .entry)) at)
-        (page (now (out .exit)) r) ⌝ }
+    ensures { λ r. ⌜ Puts (line "text=" (textItem (childless (now (words .entry)) (now (text .entry)) n)))
+        (page (now (out .entry)) at) (page (now (out .exit)) r) ⌝ }
 {
     let item = output::write_bytes(b"text=", out, at);
     let end = write_text(words, text, n, out, item);
@@ -110,7 +114,8 @@ pub(crate) fn write_own(
     out: &mut [u8],
     at: usize,
 ) -> usize
-    ensures { λ r. ⌜ Puts (recordLines (now (words .entry)) (now (text .entry)) n keyed level) (page (now (out .entry)) at) (page (now (out .exit)) r) ⌝ }
+    ensures { λ r. ⌜ Puts (recordLines (now (words .entry)) (now (text .entry)) n keyed level)
+        (page (now (out .entry)) at) (page (now (out .exit)) r) ⌝ }
 {
     let key = numbers::write_number(b"level=", level, out, at);
     let kind = write_key_line(words, text, n, keyed, out, key);

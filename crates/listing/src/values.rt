@@ -1,5 +1,5 @@
-// The walk over the values. The two writers call each other, and hand on the count of records that are left, which falls with each value: so the
-// walk over any words ends, and soon.
+// The walk over the values. The two writers call each other, and hand on the count of records that are left, which
+// falls with each value: so the walk over any words ends, and soon.
 ghost use Prim.Native.Nat.{_+_, _<_, _^_};
 ghost use mathlib.Core.Bool.{cond};
 ghost use mathlib.Core.List.{[], flatten};
@@ -72,7 +72,8 @@ fn write_map(
     Progress { at, left }
 }
 
-// Writes the lines of an accepted outcome's values from the root on, of no more values than the words make records; of a refused one, nothing.
+// Writes the lines of an accepted outcome's values from the root on, of no more values than the words make records; of
+// a refused one, nothing.
 pub(crate) fn write_values(
     number: u32,
     words: &[u32],
@@ -80,8 +81,8 @@ pub(crate) fn write_values(
     out: &mut [u8],
     at: usize,
 ) -> usize
-    ensures { λ r. ⌜ Puts (cond (eqb number 0) (flatten (boundedValues (now (words .entry)) (now (text .entry)))) []) (page (now (out .entry)) at)
-        (page (now (out .exit)) r) ⌝ }
+    ensures { λ r. ⌜ Puts (cond (eqb number 0) (flatten (boundedValues (now (words .entry)) (now (text .entry)))) [])
+        (page (now (out .entry)) at) (page (now (out .exit)) r) ⌝ }
 {
     if number != 0 {
         return at;

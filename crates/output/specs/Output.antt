@@ -8,7 +8,8 @@ use lib.ListN.{length, take, drop, set}
 use Rattle.output.specs.declared.Written.{Written}
 use Rattle.output.specs.declared.Written.the-variants.{Whole, Cut}
 
--- An output that is filled with these bytes from its start on: as many of them as it holds, and the further elements as they were.
+-- An output that is filled with these bytes from its start on: as many of them as it holds, and the further elements as
+-- they were.
 abbrev pub filled : List ℕ → List ℕ → List ℕ
 filled bytes out = take (length out) bytes ++ drop (length bytes) out
 
@@ -30,7 +31,9 @@ page out at = record { out = out; at = at }
 
 -- A byte put where there is room.
 abbrev pub putByte : Page → ℕ → Page
-putByte p b = cond (ltb (p .at) (length (p .out))) (page (set (p .out) (p .at) b) (p .at + 1)) (page (p .out) (length (p .out) + 1))
+putByte p b =
+    cond (ltb (p .at) (length (p .out))) (page (set (p .out) (p .at) b) (p .at + 1))
+    (page (p .out) (length (p .out) + 1))
 
 -- Bytes put one after the other.
 unfoldable pub put : Page → List ℕ → Page

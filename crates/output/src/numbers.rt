@@ -43,7 +43,8 @@ pub fn write_decimal(n: usize, out: &mut [u8], at: usize) -> usize
 
 // Writes a line of a name and a number.
 pub fn write_number(name: &[u8], n: usize, out: &mut [u8], at: usize) -> usize
-    ensures { λ r. ⌜ Puts (now (name .entry) ++ decimal n ++ ascii "\n") (page (now (out .entry)) at) (page (now (out .exit)) r) ⌝ }
+    ensures { λ r. ⌜ Puts (now (name .entry) ++ decimal n ++ ascii "\n") (page (now (out .entry)) at)
+        (page (now (out .exit)) r) ⌝ }
 {
     let item = crate::write_bytes(name, out, at);
     let end = write_decimal(n, out, item);
