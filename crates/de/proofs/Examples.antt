@@ -2,7 +2,7 @@
 use mathlib.Core.Path.{refl}
 use Rattle.decode.specs.Hex.{digitOf}
 use Rattle.decode.specs.Decoding.{decoded}
-use Rattle.key.specs.Keys.{allDigits, valueFrom}
+use Rattle.ascii.specs.Digits.{allDigits, valueFrom}
 use Rattle.utf8.specs.Test.{second, first, next, run}
 use Rattle.reading.specs.Reading.{reading}
 use Rattle.de.specs.Fields.{sameBytes}

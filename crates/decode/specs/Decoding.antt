@@ -4,24 +4,25 @@ use mathlib.Core.Bool.{Bool, true, false, cond, not}
 use mathlib.Core.List.{List, [], _∷_, _++_}
 use lib.Dec.{eqb, leb}
 use lib.ListN.{length, drop}
+use Rattle.ascii.specs.Bytes.{percent, plus, space}
 use Rattle.decode.specs.declared.Decoded.{Decoded}
 use Rattle.decode.specs.declared.Decoded.the-variants.{Yes, No}
 use Rattle.decode.specs.Hex.{isHex, byteOf}
 
 -- "`+` becomes a space."
 abbrev pub plusToSpace : ℕ → ℕ
-plusToSpace b = cond (eqb b 43) 32 b
+plusToSpace b = cond (eqb b plus) space b
 
 -- "`%` with two hex digits, either case, becomes that byte. Otherwise the `%` stays and swallows unchanged the next
--- byte if that isn't hex, or the next two if only the first is; at the end it swallows what there is." (`%` is 37.)
+-- byte if that isn't hex, or the next two if only the first is; at the end it swallows what there is."
 unfoldable pub decoded : List ℕ → List ℕ
 decoded [] = []
 decoded (x ∷ []) = plusToSpace x ∷ []
 decoded (x ∷ y ∷ []) =
-    cond (not (eqb x 37)) (plusToSpace x ∷ decoded (y ∷ []))
+    cond (not (eqb x percent)) (plusToSpace x ∷ decoded (y ∷ []))
     (x ∷ y ∷ [])
 decoded (x ∷ y ∷ z ∷ r) =
-    cond (not (eqb x 37)) (plusToSpace x ∷ decoded (y ∷ z ∷ r))
+    cond (not (eqb x percent)) (plusToSpace x ∷ decoded (y ∷ z ∷ r))
     (cond (not (isHex y)) (x ∷ y ∷ decoded (z ∷ r))
     (cond (not (isHex z)) (x ∷ y ∷ z ∷ decoded r)
     (byteOf y z ∷ decoded r)))

@@ -3,6 +3,7 @@
 use Prim.Native.Nat.{ℕ}
 use mathlib.Core.Path.{_≡_}
 use mathlib.Core.List.{List, [], _∷_, map}
+use Rattle.ascii.specs.Texts.{ascii}
 use Rattle.decode.specs.Decoding.{decoded}
 use Rattle.decode.specs.Whatwg.{whatwg}
 
@@ -14,22 +15,14 @@ pub record Example : Type 0 where
 
 abbrev pub examples : List Example
 examples =
-    -- `%%41`, document 01's example of the difference
-    record { raw = 37 ∷ 37 ∷ 52 ∷ 49 ∷ []; here = 37 ∷ 37 ∷ 52 ∷ 49 ∷ []; standard = 37 ∷ 65 ∷ [] }
-    -- `%4+`: a swallowed `+` stays
-    ∷ record { raw = 37 ∷ 52 ∷ 43 ∷ []; here = 37 ∷ 52 ∷ 43 ∷ []; standard = 37 ∷ 52 ∷ 32 ∷ [] }
-    -- `%25%s%1G`, the standard's own example
-    ∷ record {
-      raw = 37 ∷ 50 ∷ 53 ∷ 37 ∷ 115 ∷ 37 ∷ 49 ∷ 71 ∷ [];
-      here = 37 ∷ 37 ∷ 115 ∷ 37 ∷ 49 ∷ 71 ∷ [];
-      standard = 37 ∷ 37 ∷ 115 ∷ 37 ∷ 49 ∷ 71 ∷ [];
-    }
-    -- `a+b%2b%2B%`
-    ∷ record {
-      raw = 97 ∷ 43 ∷ 98 ∷ 37 ∷ 50 ∷ 98 ∷ 37 ∷ 50 ∷ 66 ∷ 37 ∷ [];
-      here = 97 ∷ 32 ∷ 98 ∷ 43 ∷ 43 ∷ 37 ∷ [];
-      standard = 97 ∷ 32 ∷ 98 ∷ 43 ∷ 43 ∷ 37 ∷ [];
-    }
+    -- document 01's example of the difference
+    record { raw = ascii "%%41"; here = ascii "%%41"; standard = ascii "%A" }
+    -- a swallowed `+` stays
+    ∷ record { raw = ascii "%4+"; here = ascii "%4+"; standard = ascii "%4 " }
+    -- the standard's own example
+    ∷ record { raw = ascii "%25%s%1G"; here = ascii "%%s%1G"; standard = ascii "%%s%1G" }
+    -- digits of either case
+    ∷ record { raw = ascii "a+b%2b%2B%"; here = ascii "a b++%"; standard = ascii "a b++%" }
     ∷ []
 
 abbrev pub decodedBoth : List ℕ → Example

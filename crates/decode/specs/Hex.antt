@@ -2,16 +2,17 @@
 use Prim.Native.Nat.{ℕ, _+_, _-_, _*_}
 use mathlib.Core.Bool.{Bool, cond}
 use lib.Dec.{leb, ltb}
+use Rattle.ascii.specs.Bytes.{zero, nine, capitalA, capitalF, smallA, smallF}
 
--- The value of a hex digit (`0` is 48, `A` 65, `a` 97), and 16 for any other byte.
+-- The value of a hex digit, and 16 for any other byte.
 unfoldable pub digitOf : ℕ → ℕ
 digitOf b =
-    cond (ltb b 48) 16
-    (cond (leb b 57) (b - 48)
-    (cond (ltb b 65) 16
-    (cond (leb b 70) (b - 65 + 10)
-    (cond (ltb b 97) 16
-    (cond (leb b 102) (b - 97 + 10)
+    cond (ltb b zero) 16
+    (cond (leb b nine) (b - zero)
+    (cond (ltb b capitalA) 16
+    (cond (leb b capitalF) (b - capitalA + 10)
+    (cond (ltb b smallA) 16
+    (cond (leb b smallF) (b - smallA + 10)
     16)))))
 
 abbrev pub isHex : ℕ → Bool

@@ -4,12 +4,13 @@ use mathlib.Core.Bool.{Bool, true, false, cond}
 use mathlib.Core.List.{List, [], _∷_}
 use lib.Dec.{eqb}
 use lib.ListN.{take}
+use Rattle.ascii.specs.Bytes.{percent, plus}
 use Rattle.decode.specs.declared.Decoded.{Decoded}
 use Rattle.decode.specs.Decoding.{answerOf}
 
--- Neither `+` (43) nor `%` (37).
+-- Neither `+` nor `%`.
 abbrev pub plainByte : ℕ → Bool
-plainByte b = cond (eqb b 43) false (cond (eqb b 37) false true)
+plainByte b = cond (eqb b plus) false (cond (eqb b percent) false true)
 
 -- Whether bytes "hold neither `+` nor `%`".
 unfoldable pub allPlain : List ℕ → Bool

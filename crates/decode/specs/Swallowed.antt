@@ -14,21 +14,22 @@ use Prim.Native.Nat.{ℕ}
 use mathlib.Core.Bool.{Bool, true, cond, not, _&&_, _||_}
 use mathlib.Core.List.{List, [], _∷_}
 use lib.Dec.{eqb}
+use Rattle.ascii.specs.Bytes.{percent, plus}
 use Rattle.decode.specs.Hex.{isHex}
 
--- `+` (43) or `%` (37).
+-- `+` or `%`.
 abbrev pub isMark : ℕ → Bool
-isMark b = eqb b 43 || eqb b 37
+isMark b = eqb b plus || eqb b percent
 
 -- Whether no byte that is swallowed is one.
 unfoldable pub noneSwallowed : List ℕ → Bool
 noneSwallowed [] = true
 noneSwallowed (x ∷ []) = true
 noneSwallowed (x ∷ y ∷ []) =
-    cond (not (eqb x 37)) (noneSwallowed (y ∷ []))
+    cond (not (eqb x percent)) (noneSwallowed (y ∷ []))
     (not (isMark y))
 noneSwallowed (x ∷ y ∷ z ∷ r) =
-    cond (not (eqb x 37)) (noneSwallowed (y ∷ z ∷ r))
+    cond (not (eqb x percent)) (noneSwallowed (y ∷ z ∷ r))
     (cond (not (isHex y)) (not (isMark y) && noneSwallowed (z ∷ r))
     (cond (not (isHex z)) (not (isMark y) && (not (isMark z) && noneSwallowed r))
     (noneSwallowed r)))

@@ -8,6 +8,7 @@ use Prim.Native.Nat.{ℕ}
 use mathlib.Core.Bool.{cond, not}
 use mathlib.Core.List.{List, [], _∷_, map}
 use lib.Dec.{eqb}
+use Rattle.ascii.specs.Bytes.{percent}
 use Rattle.decode.specs.Hex.{isHex, byteOf}
 use Rattle.decode.specs.Decoding.{plusToSpace}
 
@@ -17,10 +18,10 @@ unfoldable pub percentDecode : List ℕ → List ℕ
 percentDecode [] = []
 percentDecode (x ∷ []) = x ∷ []
 percentDecode (x ∷ y ∷ []) =
-    cond (not (eqb x 37)) (x ∷ percentDecode (y ∷ []))
+    cond (not (eqb x percent)) (x ∷ percentDecode (y ∷ []))
     (x ∷ percentDecode (y ∷ []))
 percentDecode (x ∷ y ∷ z ∷ r) =
-    cond (not (eqb x 37)) (x ∷ percentDecode (y ∷ z ∷ r))
+    cond (not (eqb x percent)) (x ∷ percentDecode (y ∷ z ∷ r))
     (cond (not (isHex y)) (x ∷ percentDecode (y ∷ z ∷ r))
     (cond (not (isHex z)) (x ∷ percentDecode (y ∷ z ∷ r))
     (byteOf y z ∷ percentDecode r)))

@@ -1,6 +1,6 @@
 -- The examples, decided by computing the definitions.
 use mathlib.Core.Path.{refl}
-use Rattle.key.specs.Keys.{valueFrom}
+use Rattle.ascii.specs.Digits.{valueFrom}
 use Rattle.head.specs.Heads.{begins, leadingDigits, flagIn, depthIn, headOf}
 use Rattle.head.specs.Examples.{HeadsPass}
 

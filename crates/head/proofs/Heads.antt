@@ -7,11 +7,10 @@ use native.Mathlib.Omega.{arith}
 use borrow.Author.Tests.{eq-eqb, ne-eqb, le-leb, lt-leb, leb-true}
 use lib.Dec.{eqb, leb}
 use lib.ListN.{length, take, drop, getD, length-drop, drop-of-length-le}
-use Rattle.laws.proofs.Cases.{true-false, both}
+use Rattle.laws.proofs.Cases.{by-test, true-false, both}
 use Rattle.laws.proofs.Lists.{drop-1, mid-tail}
-use Rattle.key.specs.Keys.{isDigit, allDigits, valueFrom}
+use Rattle.ascii.specs.Digits.{isDigit, allDigits, valueFrom}
 use Rattle.ascii.specs.Texts.{ascii}
-use Rattle.reading.proofs.Results.{by-test}
 use Rattle.head.specs.declared.Head.{Head}
 use Rattle.head.specs.declared.Head.the-variants.{Bad, Good}
 use Rattle.head.specs.Heads.{begins, leadingDigits, isDepth, flagIn, depthIn, headOf}

@@ -1,11 +1,12 @@
--- Document 01, 'The listing program', the head of its input: "`depth=5`, `form=0` (0 or 1), a newline after each, then the ticket to end of file.
--- Depth is one to three digits without leading zero."
+-- Document 01, 'The listing program', the head of its input: "`depth=5`, `form=0` (0 or 1), a newline after each, then
+-- the ticket to end of file. Depth is one to three digits without leading zero."
 use Prim.Native.Nat.{ℕ, _+_}
 use mathlib.Core.Bool.{Bool, true, false, cond, not}
 use mathlib.Core.List.{List, [], _∷_}
 use lib.Dec.{eqb}
 use lib.ListN.{length, drop}
-use Rattle.key.specs.Keys.{isDigit, valueFrom}
+use Rattle.ascii.specs.Bytes.{zero}
+use Rattle.ascii.specs.Digits.{isDigit, valueFrom}
 use Rattle.ascii.specs.Texts.{ascii}
 use Rattle.head.specs.declared.Head.{Head}
 use Rattle.head.specs.declared.Head.the-variants.{Bad, Good}
@@ -21,18 +22,20 @@ unfoldable pub leadingDigits : List ℕ → List ℕ
 leadingDigits [] = []
 leadingDigits (b ∷ s) = cond (isDigit b) (b ∷ leadingDigits s) []
 
--- "one to three digits without leading zero" (`0` is 48)
+-- "one to three digits without leading zero"
 abbrev pub isDepth : List ℕ → Bool
 isDepth [] = false
 isDepth (a ∷ []) = true
-isDepth (a ∷ b ∷ []) = not (eqb a 48)
-isDepth (a ∷ b ∷ c ∷ []) = not (eqb a 48)
+isDepth (a ∷ b ∷ []) = not (eqb a zero)
+isDepth (a ∷ b ∷ c ∷ []) = not (eqb a zero)
 isDepth (a ∷ b ∷ c ∷ d ∷ s) = false
 
--- The head, once its depth and the start of the query string (document 01's "ticket") are known: the flag, with the newlines before and after it.
+-- The head, once its depth and the start of the query string (document 01's "ticket") are known: the flag, with the
+-- newlines before and after it.
 unfoldable pub flagIn : ℕ → ℕ → List ℕ → Head
 flagIn depth start bytes =
-    cond (begins (ascii "\nform=0\n") bytes) (Good depth false start) (cond (begins (ascii "\nform=1\n") bytes) (Good depth true start) Bad)
+    cond (begins (ascii "\nform=0\n") bytes) (Good depth false start)
+    (cond (begins (ascii "\nform=1\n") bytes) (Good depth true start) Bad)
 
 -- The head, from its depth on. All but the depth's digits takes 14 bytes.
 unfoldable pub depthIn : List ℕ → Head

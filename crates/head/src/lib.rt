@@ -1,10 +1,11 @@
-// The head of the listing program's input: the settings of a reading, and where the query string starts. Its definition is specs/Heads.
-// Below it stand the digits of a key (key) and ASCII text (reading).
+// The head of the listing program's input: the settings of a reading, and where the query string starts. Its definition
+// is specs/Heads. Below it stand digits and texts as bytes (ascii) and laws.
 ghost use mathlib.Core.Path.{_≡_};
 ghost use mathlib.Core.Bool.{true};
 ghost use Prim.Native.Nat.{_-_, _<_, _≤_};
 ghost use lib.ListN.{length, getD};
-ghost use Rattle.key.specs.Keys.{allDigits, valueFrom};
+ghost use Rattle.ascii.specs.Bytes.{zero};
+ghost use Rattle.ascii.specs.Digits.{allDigits, valueFrom};
 ghost use Rattle.head.specs.Heads.{begins, leadingDigits, isDepth, flagIn, depthIn, headOf};
 
 // The settings of a reading and where the query string (document 01's "ticket") starts, or that the head is bad.
@@ -72,7 +73,7 @@ fn is_depth(digits: &[u8]) -> bool
 // The value of digit i.
 fn digit_at(digits: &[u8], i: usize) -> usize
     requires { ⌜ (allDigits (now digits) ≡ true) × (i < length (now digits)) ⌝ }
-    ensures { λ r. ⌜ (r ≡ getD (now (digits .entry)) i 0 - 48) × (r ≤ 9) ⌝ }
+    ensures { λ r. ⌜ (r ≡ getD (now (digits .entry)) i 0 - zero) × (r ≤ 9) ⌝ }
 {
     (digits[i] - b'0') as usize
 }

@@ -11,7 +11,8 @@ use Rattle.laws.proofs.Lists.{drop-1}
 use Rattle.config.specs.declared.Config.{Config}
 use Rattle.decode.specs.Decoding.{decoded}
 use Rattle.key.specs.declared.KeyKind.the-variants.{None, Int, String}
-use Rattle.key.specs.Keys.{int, str, allDigits, valueFrom, maxInt}
+use Rattle.ascii.specs.Digits.{allDigits, valueFrom}
+use Rattle.key.specs.Keys.{int, str, maxInt}
 use Rattle.key.specs.Collected.{Collected, key, collected, keyIn}
 
 -- The key of a segment whole, of which digits of value v are read and xs is left.

@@ -4,28 +4,25 @@ use mathlib.Core.Path.{_≡_}
 use mathlib.Core.List.{List, [], _∷_, _++_, map}
 use lib.ListN.{replicate}
 use Rattle.config.specs.Defaults.{defaults}
+use Rattle.ascii.specs.Bytes.{zero}
+use Rattle.ascii.specs.Texts.{ascii}
 use Rattle.key.specs.Keys.{int, str, maxInt}
 use Rattle.key.specs.Collected.{Collected, no-key, key, collected}
 
 abbrev pub examples : List (List ℕ × Collected)
 examples =
     ([], no-key)
-    -- `0`, and `007`, which is 7
-    ∷ (48 ∷ [], key (int 0))
-    ∷ (48 ∷ 48 ∷ 55 ∷ [], key (int 7))
-    -- forty zeros and a 7
-    ∷ (replicate 40 48 ++ (55 ∷ []), key (int 7))
-    -- `4294967295` and `4294967296`
-    ∷ (52 ∷ 50 ∷ 57 ∷ 52 ∷ 57 ∷ 54 ∷ 55 ∷ 50 ∷ 57 ∷ 53 ∷ [], key (int maxInt))
-    ∷ (
-      52 ∷ 50 ∷ 57 ∷ 52 ∷ 57 ∷ 54 ∷ 55 ∷ 50 ∷ 57 ∷ 54 ∷ [],
-      key (str (52 ∷ 50 ∷ 57 ∷ 52 ∷ 57 ∷ 54 ∷ 55 ∷ 50 ∷ 57 ∷ 54 ∷ [])),
-    )
-    -- `%31`, which decodes to a digit, and is no Int
-    ∷ (37 ∷ 51 ∷ 49 ∷ [], key (str (49 ∷ [])))
-    -- `1a` and `+1`
-    ∷ (49 ∷ 97 ∷ [], key (str (49 ∷ 97 ∷ [])))
-    ∷ (43 ∷ 49 ∷ [], key (str (32 ∷ 49 ∷ [])))
+    ∷ (ascii "0", key (int 0))
+    -- zeros before it don't change a number, however many
+    ∷ (ascii "007", key (int 7))
+    ∷ (replicate 40 zero ++ ascii "7", key (int 7))
+    -- the greatest Int, and one more
+    ∷ (ascii "4294967295", key (int maxInt))
+    ∷ (ascii "4294967296", key (str (ascii "4294967296")))
+    -- what decodes to a digit is no Int
+    ∷ (ascii "%31", key (str (ascii "1")))
+    ∷ (ascii "1a", key (str (ascii "1a")))
+    ∷ (ascii "+1", key (str (ascii " 1")))
     ∷ []
 
 -- At the default settings what is collected of each example is as it says.

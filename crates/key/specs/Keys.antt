@@ -1,8 +1,9 @@
 -- Document 01, 'A key': the keys, and the key of a segment that isn't empty.
-use Prim.Native.Nat.{ℕ, _+_, _*_, _-_}
-use mathlib.Core.Bool.{Bool, true, cond, _&&_}
-use mathlib.Core.List.{List, [], _∷_}
+use Prim.Native.Nat.{ℕ}
+use mathlib.Core.Bool.{Bool, cond, _&&_}
+use mathlib.Core.List.{List}
 use lib.Dec.{leb}
+use Rattle.ascii.specs.Digits.{allDigits, valueFrom}
 use Rattle.config.specs.declared.Config.{Config}
 use Rattle.decode.specs.Decoding.{decoded}
 
@@ -10,19 +11,6 @@ use Rattle.decode.specs.Decoding.{decoded}
 pub data Key : Type 0 where
   int : ℕ → Key
   str : List ℕ → Key
-
-abbrev pub isDigit : ℕ → Bool
-isDigit b = leb 48 b && leb b 57
-
--- "digits only"
-unfoldable pub allDigits : List ℕ → Bool
-allDigits [] = true
-allDigits (b ∷ s) = isDigit b && allDigits s
-
--- The value in base ten of digits that follow those of value v.
-unfoldable pub valueFrom : ℕ → List ℕ → ℕ
-valueFrom v [] = v
-valueFrom v (b ∷ s) = valueFrom (v * 10 + (b - 48)) s
 
 -- The greatest Int.
 abbrev pub maxInt : ℕ

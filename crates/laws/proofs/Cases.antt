@@ -10,6 +10,11 @@ pub split : {C : Type 0} (b : Bool) → (b ≡ true → C) → (b ≡ false → 
 split true f g = f refl
 split false f g = g refl
 
+-- A choice by a test has what both answers have, where each is taken.
+pub by-test : {A : Type 0} (Q : A → Type 0) (b : Bool) {x y : A} → (b ≡ true → Q x) → (b ≡ false → Q y) → Q (cond b x y)
+by-test Q true p q = p refl
+by-test Q false p q = q refl
+
 -- A number is below a bound or not.
 pub below : {C : Type 0} (a b : ℕ) → (a < b → C) → (b ≤ a → C) → C
 below a b f g = elim (decLt a b) [ yes h ↦ f h | no h ↦ g (not-below a b h) ]

@@ -1,4 +1,4 @@
--- Bytes past the first 17 don't change a head, nor bytes past the first 65,553 a reply.
+-- Bytes past the longest head don't change a head, nor bytes past those that the program reads a reply.
 use mathlib.Core.Path.{_≡_, refl, sym, ap, _∙_}
 use mathlib.Core.Bool.{Bool, true, false, cond}
 use mathlib.Core.List.{List, [], _∷_, _++_}
@@ -11,7 +11,7 @@ use lib.Seq.{drop-append-le, length-take-le}
 use Rattle.laws.proofs.Cases.{below}
 use Rattle.config.specs.declared.Config.{Config}
 use Rattle.config.specs.Limits.{maxLen}
-use Rattle.key.specs.Keys.{isDigit, valueFrom}
+use Rattle.ascii.specs.Digits.{isDigit, valueFrom}
 use Rattle.ascii.specs.Texts.{ascii}
 use Rattle.reading.specs.Reading.{reading}
 use Rattle.head.specs.declared.Head.{Head}
@@ -20,6 +20,7 @@ use Rattle.listing.specs.Listing.{listing}
 use Rattle.head.specs.Heads.{begins, leadingDigits, flagIn, depthIn, headOf}
 use Rattle.head.proofs.Heads.{Inside, head-inside, depth-four}
 use Rattle.list.specs.Reply.{replyTo}
+use Rattle.list.specs.Lending.{longestHead}
 use Rattle.list.specs.Enough.{Enough}
 
 begins-front : (s bytes rest : List ℕ) → length s ≤ length bytes → begins s (bytes ++ rest) ≡ begins s bytes
@@ -65,7 +66,7 @@ depth-front bytes rest h =
       flag-front (valueFrom 0 (leadingDigits bytes)) (n + 14) (drop n bytes) rest (omega (arith, length-drop n bytes)),
     ))
 
-head-front : (first rest : List ℕ) → 17 ≤ length first → headOf (first ++ rest) ≡ headOf first
+head-front : (first rest : List ℕ) → longestHead ≤ length first → headOf (first ++ rest) ≡ headOf first
 unfolding headOf
 head-front first rest h =
     rw (
@@ -75,11 +76,11 @@ head-front first rest h =
     )
 
 -- So the query string starts within them.
-head-early : (first : List ℕ) → 17 ≤ length first → Inside 17 (headOf first)
+head-early : (first : List ℕ) → longestHead ≤ length first → Inside longestHead (headOf first)
 head-early first h =
-    let n = length-take-le 17 first h in
-    let e = ap headOf (sym (take-append-drop 17 first)) ∙ head-front (take 17 first) (drop 17 first) (omega (arith, n)) in
-    rw e (rw n at (head-inside (take 17 first)))
+    let n = length-take-le longestHead first h in
+    let e = ap headOf (sym (take-append-drop longestHead first)) ∙ head-front (take longestHead first) (drop longestHead first) (omega (arith, n)) in
+    rw e (rw n at (head-inside (take longestHead first)))
 
 -- Of a query string that is too long nothing else matters.
 too-long : (config : Config) (input other words text : List ℕ) → maxLen < length input → maxLen < length other
@@ -91,7 +92,7 @@ pub enough : Enough
 enough first rest words text h =
     ap (λ head. replyTo head (first ++ rest) words text) (head-front first rest (omega arith)) ∙ go (headOf first) (head-early first (omega arith))
   where
-    go : (head : Head) → Inside 17 head → replyTo head (first ++ rest) words text ≡ replyTo head first words text
+    go : (head : Head) → Inside longestHead head → replyTo head (first ++ rest) words text ≡ replyTo head first words text
     go Bad i = refl
     go (Good depth form start) i =
         ap listing (too-long (record { depth = depth; form = form }) (drop start (first ++ rest)) (drop start first) words text

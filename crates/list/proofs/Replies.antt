@@ -2,7 +2,7 @@
 use mathlib.Core.Path.{_≡_, sym, ap, subst, _∙_}
 use mathlib.Core.Bool.{Bool}
 use mathlib.Core.List.{List, _++_}
-use Prim.Native.Nat.{ℕ, _-_, _/_, _^_, _≤_, _<_}
+use Prim.Native.Nat.{ℕ, _-_, _^_, _≤_, _<_}
 use native.Mathlib.Omega.{arith}
 use borrow.Author.Tests.{le-leb}
 use lib.ListN.{length, take, drop, getD, length-append}
@@ -10,18 +10,19 @@ use lib.Seq.{take-all}
 use Rattle.laws.proofs.Cases.{below}
 use Rattle.laws.proofs.Lists.{mid-tail}
 use Rattle.config.specs.declared.Config.{Config}
-use Rattle.row.specs.Row.{recordWidth}
+use Rattle.row.specs.Words.{recordCount}
+use Rattle.reading.specs.declared.Reading.{Reading}
 use Rattle.reading.specs.Reading.{reading}
 use Rattle.reading.proofs.Outcomes.{answers, of-accepted}
 use Rattle.reading.proofs.Placed.{placed}
 use Rattle.parse.specs.declared.Parsed.{Parsed}
-use Rattle.parse.specs.Outcomes.{outcomeOf}
-use Rattle.listing.specs.declared.Listed.{Listed}
+use Rattle.parse.specs.Outcomes.{answerOf, outcomeOf}
+use Rattle.output.specs.declared.Written.{Written}
 use Rattle.head.specs.declared.Head.{Head}
 use Rattle.head.specs.declared.Head.the-variants.{Bad, Good}
 use Rattle.listing.specs.Listing.{listing}
-use Rattle.listing.specs.Bounded.{boundedListing}
-use Rattle.listing.specs.Output.{answer, filled}
+use Rattle.listing.specs.Bounded.{boundedListing, outcomeFrom}
+use Rattle.output.specs.Output.{answerFor, filled}
 use Rattle.head.specs.Heads.{headOf}
 use Rattle.listing.specs.Listing.{badHead}
 use Rattle.listing.specs.Room.{Narrow}
@@ -29,11 +30,11 @@ use Rattle.listing.proofs.Complete.{whichever, complete}
 use Rattle.listing.proofs.Room.{room}
 use Rattle.head.proofs.Heads.{Inside, head-inside}
 use Rattle.list.specs.Reply.{replyTo, reply}
-use Rattle.list.specs.Lending.{Lent, counted, Written}
+use Rattle.list.specs.Lending.{lentRecords, lentBytes, Lent, counted, WroteAll}
 
 -- Bytes that fit are written whole, and counted.
-module _ (bytes out out′ : List ℕ) {listed : Listed} {r : ℕ} (answered : listed ≡ answer bytes out) (output : out′ ≡ filled bytes out) (count : r ≡ counted listed) where
-  pub written : length bytes ≤ length out → Written bytes out out′ r
+module _ (bytes out out′ : List ℕ) {told : Written} {r : ℕ} (answered : told ≡ answerFor bytes out) (output : out′ ≡ filled bytes out) (count : r ≡ counted told) where
+  pub written : length bytes ≤ length out → WroteAll bytes out out′ r
   written h =
       record {
         count = count ∙ ap counted answered ∙ rw (le-leb (length bytes) (length out) h);
@@ -41,19 +42,19 @@ module _ (bytes out out′ : List ℕ) {listed : Listed} {r : ℕ} (answered : l
       }
 
 -- What was written stands in the output.
-pub count-inside : (bytes out out′ : List ℕ) {n : ℕ} → Written bytes out out′ n → n ≤ length out′
+pub count-inside : (bytes out out′ : List ℕ) {n : ℕ} → WroteAll bytes out out′ n → n ≤ length out′
 count-inside bytes out out′ w = rw (w .output, length-append) (omega (arith, w .count))
 
 -- A reading's listing fits, since its words are u32s.
 module _ (config : Config) (input words text out : List ℕ) (lent : Lent words text out) where
-  used : ((reading config input words text) .records ≤ 2000) × ((reading config input words text) .bytes ≤ 65535)
+  used : ((reading config input words text) .answer .records ≤ lentRecords) × ((reading config input words text) .answer .bytes ≤ lentBytes)
   used =
       let o = reading config input words text in
-      below 0 (o .number)
+      below 0 (o .answer .number)
       (λ h. let n = answers config input words text .refusedCounts (omega arith) in (omega (arith, n .0), omega (arith, n .1)))
       (λ h.
       let within =
-      whichever (of-accepted (λ p v n t. (p .records ≤ length words / recordWidth) × (p .bytes ≤ length text)) config input words text
+      whichever (of-accepted (λ p v n t. (p .answer .records ≤ recordCount words) × (p .answer .bytes ≤ length text)) config input words text
       (λ v n t s. (s .within .records, s .within .bytes)) (omega arith)) in
       (omega (arith, within .0, lent .records), omega (arith, within .1, lent .bytes)))
 
@@ -70,17 +71,17 @@ module _ (config : Config) (input words text out : List ℕ) (lent : Lent words 
   fits : ((i : ℕ) → getD ((reading config input words text) .words) i 0 < 2 ^ 32) → length (listing (reading config input words text)) ≤ length out
   fits h = omega (arith, room config input words text (narrow h), used .0, used .1, lent .output)
 
-  pub listing-written : (words′ text′ : List ℕ) {q p : Parsed} → outcomeOf q words′ text′ ≡ reading config input words text → q ≡ p
-      → ((i : ℕ) → getD ((outcomeOf p words′ text′) .words) i 0 < 2 ^ 32)
-      → (out′ : List ℕ) {listed : Listed} {r : ℕ} → listed ≡ answer (boundedListing (outcomeOf p words′ text′)) out
-      → out′ ≡ filled (boundedListing (outcomeOf p words′ text′)) out → r ≡ counted listed
-      → Written (listing (reading config input words text)) out out′ r
-  listing-written words′ text′ {p = p} read told u32s out′ {r = r} answered output count =
-      let o = outcomeOf p words′ text′ in
-      let e : o ≡ reading config input words text = subst (λ a. outcomeOf a words′ text′ ≡ reading config input words text) told read in
+  pub listing-written : (words′ text′ : List ℕ) (parsed : Parsed) {answer : Reading}
+      → outcomeOf parsed words′ text′ ≡ reading config input words text → answer ≡ answerOf parsed → ((i : ℕ) → getD words′ i 0 < 2 ^ 32)
+      → (out′ : List ℕ) {told : Written} {r : ℕ} → told ≡ answerFor (boundedListing (outcomeFrom answer words′ text′)) out
+      → out′ ≡ filled (boundedListing (outcomeFrom answer words′ text′)) out → r ≡ counted told
+      → WroteAll (listing (reading config input words text)) out out′ r
+  listing-written words′ text′ parsed {answer = answer} read is u32s out′ {r = r} answered output count =
+      let o = outcomeFrom answer words′ text′ in
+      let e : o ≡ reading config input words text = ap (λ a. outcomeFrom a words′ text′) is ∙ read in
       let whole : boundedListing o ≡ listing (reading config input words text) = ap boundedListing e ∙ complete config input words text .whole in
       let long = fits (subst (λ a. (i : ℕ) → getD (a .words) i 0 < 2 ^ 32) e u32s) in
-      subst (λ bytes. Written bytes out out′ r) whole (written (boundedListing o) out out′ answered output count (subst (λ bytes. length bytes ≤ length out) (sym whole) long))
+      subst (λ bytes. WroteAll bytes out out′ r) whole (written (boundedListing o) out out′ answered output count (subst (λ bytes. length bytes ≤ length out) (sym whole) long))
 
 -- The query string starts inside the input.
 pub start-inside : (input : List ℕ) {head : Head} {depth start : ℕ} {form : Bool} → head ≡ headOf input → head ≡ Good depth form start → start ≤ length input
@@ -88,11 +89,11 @@ start-inside input told e = subst (Inside (length input)) (sym told ∙ e) (head
 
 -- The reply, by the head.
 module _ (input words text out out′ : List ℕ) {head : Head} {r : ℕ} (told : head ≡ headOf input) where
-  pub bad-reply : head ≡ Bad → Written badHead out out′ r → Written (reply input words text) out out′ r
-  bad-reply e w = subst (λ h. Written (replyTo h input words text) out out′ r) (sym e ∙ told) w
+  pub bad-reply : head ≡ Bad → WroteAll badHead out out′ r → WroteAll (reply input words text) out out′ r
+  bad-reply e w = subst (λ h. WroteAll (replyTo h input words text) out out′ r) (sym e ∙ told) w
 
   pub good-reply : (config : Config) (start : ℕ) → head ≡ Good (config .depth) (config .form) start
-      → Written (listing (reading config (take (length input - start) (drop start input)) words text)) out out′ r → Written (reply input words text) out out′ r
+      → WroteAll (listing (reading config (take (length input - start) (drop start input)) words text)) out out′ r → WroteAll (reply input words text) out out′ r
   good-reply config start e w =
-      subst (λ h. Written (replyTo h input words text) out out′ r) (sym e ∙ told)
-      (subst (λ query. Written (listing (reading config query words text)) out out′ r) (mid-tail start input) w)
+      subst (λ h. WroteAll (replyTo h input words text) out out′ r) (sym e ∙ told)
+      (subst (λ query. WroteAll (listing (reading config query words text)) out out′ r) (mid-tail start input) w)

@@ -9,7 +9,8 @@ use Rattle.head.specs.Heads.{headOf}
 use Rattle.listing.specs.Listing.{badHead}
 use Rattle.listing.specs.Listing.{listing}
 
--- "A bad head prints only `answer=head`." After a good one the rest is the query string (document 01's "ticket"), "to end of file".
+-- "A bad head prints only `answer=head`." After a good one the rest is the query string (document 01's "ticket"), "to
+-- end of file".
 abbrev pub replyTo : Head → List ℕ → List ℕ → List ℕ → List ℕ
 replyTo Bad input words text = badHead
 replyTo (Good depth form start) input words text =

@@ -3,7 +3,7 @@ use mathlib.Core.Path.{_≡_, refl, ap, _∙_}
 use mathlib.Core.Bool.{Bool, true, false, cond}
 use mathlib.Core.Option.{Option, none, some}
 use mathlib.Core.List.{List, [], _++_, append-nil, flatten}
-use Prim.Native.Nat.{ℕ, _+_, _/_, _≤_}
+use Prim.Native.Nat.{ℕ, _+_, _≤_}
 use native.Mathlib.Omega.{arith}
 use borrow.Author.Tests.{eqb-true, ne-eqb, le-leb}
 use lib.Dec.{eqb}
@@ -12,7 +12,7 @@ use lib.Seq.{take-all}
 use Rattle.config.specs.declared.Config.{Config}
 use Rattle.key.specs.Keys.{Key}
 use Rattle.reading.specs.Running.{Answer, Accepts, accepts}
-use Rattle.row.specs.Row.{recordWidth}
+use Rattle.row.specs.Words.{recordCount}
 use Rattle.reading.specs.Reading.{Outcome, reading}
 use Rattle.reading.specs.Trees.{Tree, uninitialized, null, noValue, string, map, sequence, Entries, noEntries, entry, Elements, noElements, element}
 use Rattle.reading.specs.Buffers.{treeIn}
@@ -53,13 +53,13 @@ module _ (config : Config) (input words text : List ℕ) where
   o : Outcome
   o = reading config input words text
 
-  all-values : o .number ≡ 0 → boundedValues (o .words) (o .text) ≡ valueLines (o .words) (o .text)
+  all-values : o .answer .number ≡ 0 → boundedValues (o .words) (o .text) ≡ valueLines (o .words) (o .text)
   unfolding o
   all-values e =
       let v = treeIn (o .words) (o .text) in
-      let fits : o .records ≤ length words / recordWidth =
-      whichever (of-accepted (λ p w n t. p .records ≤ length words / recordWidth) config input words text (λ w n t s. s .within .records) e) in
-      take-all (length (o .words) / recordWidth) (treeLines v 0 none)
+      let fits : o .answer .records ≤ recordCount words =
+      whichever (of-accepted (λ p w n t. p .answer .records ≤ recordCount words) config input words text (λ w n t s. s .within .records) e) in
+      take-all (recordCount (o .words)) (treeLines v 0 none)
       (omega (arith, tree-values v 0 none, counts config input words text e .records, answers config input words text .lengths .0, fits))
 
 same-choice : (b : Bool) (xs ys : List ℕ) → (b ≡ true → xs ≡ ys) → cond b xs [] ≡ cond b ys []
@@ -76,13 +76,13 @@ listing-of p e =
       whole = e;
       output = λ out h. rw e (ap (λ t. t ++ drop (length (listing p)) out) (take-all (length out) (listing p) h));
       answered = λ out h. rw (e, le-leb (length (listing p)) (length out) h);
-      refused = λ h. rw (no-values (p .number) (flatten (valueLines (p .words) (p .text))) h) (append-nil (answerLines (p .number) (p .place) (p .records) (p .bytes)));
+      refused = λ h. rw (no-values (p .answer .number) (flatten (valueLines (p .words) (p .text))) h) (append-nil (answerLines (p .answer)));
     }
 
 pub complete : Complete
 unfolding boundedListing listing o
 complete config input words text =
     let p = reading config input words text in
-    listing-of p (ap (λ values. answerLines (p .number) (p .place) (p .records) (p .bytes) ++ values)
-    (same-choice (eqb (p .number) 0) (flatten (boundedValues (p .words) (p .text))) (flatten (valueLines (p .words) (p .text)))
-    (λ e. ap flatten (all-values config input words text (eqb-true (p .number) 0 e)))))
+    listing-of p (ap (λ values. answerLines (p .answer) ++ values)
+    (same-choice (eqb (p .answer .number) 0) (flatten (boundedValues (p .words) (p .text))) (flatten (valueLines (p .words) (p .text)))
+    (λ e. ap flatten (all-values config input words text (eqb-true (p .answer .number) 0 e)))))

@@ -5,8 +5,9 @@ use mathlib.Core.List.{List, _++_}
 use Prim.Native.Nat.{ℕ}
 use borrow.Author.Tests.{eq-eqb, ne-eqb}
 use Rattle.ascii.specs.Texts.{ascii}
+use Rattle.row.specs.Row.{kindWord, keyKindWord, keyWord, keyLengthWord, textWord, textLengthWord, stringKind, intKeyKind}
 use Rattle.row.specs.Words.{word, textPart}
-use Rattle.listing.specs.Numbers.{decimal, hex}
+use Rattle.output.specs.Numbers.{decimal, hex}
 use Rattle.listing.specs.Lines.{keyItem, textItem}
 use Rattle.listing.specs.Walking.{keyShown, childless}
 
@@ -14,14 +15,14 @@ module _ (words text : List ℕ) (n : ℕ) (keyed : Bool) where
   pub no-key : keyed ≡ false → ascii "-" ≡ keyItem (keyShown keyed words text n)
   no-key e = rw e
 
-  pub int-key : (kind a : ℕ) → keyed ≡ true → kind ≡ word words n 1 → kind ≡ 1 → a ≡ word words n 2
+  pub int-key : (kind a : ℕ) → keyed ≡ true → kind ≡ word words n keyKindWord → kind ≡ intKeyKind → a ≡ word words n keyWord
       → ascii "i" ++ decimal a ≡ keyItem (keyShown keyed words text n)
-  int-key kind a e f g h = rw (e, ← f, eq-eqb kind 1 g, h)
+  int-key kind a e f g h = rw (e, ← f, eq-eqb kind intKeyKind g, h)
 
-  pub string-key : (kind offset len : ℕ) (x : List ℕ) → keyed ≡ true → kind ≡ word words n 1 → (kind ≡ 1 → ⊥)
-      → offset ≡ word words n 2 → len ≡ word words n 3 → x ≡ textPart text offset len → ascii "s" ++ hex x ≡ keyItem (keyShown keyed words text n)
-  string-key kind offset len x e f g h k l = rw (e, ← f, ne-eqb kind 1 g, l, h, k)
+  pub string-key : (kind offset len : ℕ) (x : List ℕ) → keyed ≡ true → kind ≡ word words n keyKindWord → (kind ≡ intKeyKind → ⊥)
+      → offset ≡ word words n keyWord → len ≡ word words n keyLengthWord → x ≡ textPart text offset len → ascii "s" ++ hex x ≡ keyItem (keyShown keyed words text n)
+  string-key kind offset len x e f g h k l = rw (e, ← f, ne-eqb kind intKeyKind g, l, h, k)
 
-pub string-text : (words text : List ℕ) (n kind offset len : ℕ) (x : List ℕ) → kind ≡ word words n 0 → kind ≡ 3 → offset ≡ word words n 4
-    → len ≡ word words n 5 → x ≡ textPart text offset len → hex x ≡ textItem (childless words text n)
+pub string-text : (words text : List ℕ) (n kind offset len : ℕ) (x : List ℕ) → kind ≡ word words n kindWord → kind ≡ stringKind → offset ≡ word words n textWord
+    → len ≡ word words n textLengthWord → x ≡ textPart text offset len → hex x ≡ textItem (childless words text n)
 string-text words text n kind offset len x e f g h k = rw (← e, f, k, g, h)

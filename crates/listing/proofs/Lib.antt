@@ -1,11 +1,7 @@
-pub mod Pages
-pub mod Digits
 pub mod ByKind
 pub mod Items
-pub mod Parts
 pub mod Walks
 pub mod Writes
-pub mod Filled
 pub mod Examples
 pub mod Complete
 pub mod Room

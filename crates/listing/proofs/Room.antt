@@ -1,49 +1,29 @@
 -- The length of a listing, line by line.
-use mathlib.Core.Path.{_≡_, refl}
 use mathlib.Core.Bool.{Bool, true, false, cond}
 use mathlib.Core.Option.{Option, none, some}
-use mathlib.Core.List.{List, [], _∷_, flatten}
-use Prim.Native.Nat.{ℕ, zero, suc, _+_, _*_, _/_, _^_, _≤_, _<_}
+use mathlib.Core.List.{List, flatten}
+use Prim.Native.Nat.{ℕ, zero, suc, _+_, _*_, _^_, _≤_, _<_}
 use native.Mathlib.Omega.{arith}
-use borrow.Author.Tests.{lt-ltb, le-ltb, eqb-true}
+use borrow.Author.Tests.{eqb-true}
 use lib.Dec.{eqb}
 use lib.ListN.{length, getD, length-append}
-use Rattle.laws.proofs.Cases.{split, below}
+use Rattle.laws.proofs.Cases.{split, by-test}
 use Rattle.key.specs.Keys.{Key, int, str}
 use Rattle.ascii.specs.Texts.{ascii}
+use Rattle.reading.specs.declared.Reading.{Reading}
 use Rattle.reading.specs.Reading.{reading}
 use Rattle.reading.specs.Trees.{Tree, uninitialized, null, noValue, string, map, sequence, Entries, noEntries, entry, Elements, noElements, element}
+use Rattle.row.specs.Row.{kindWord, keyKindWord, keyWord, keyLengthWord, textWord, textLengthWord, childWord, nextWord}
+use Rattle.row.specs.Row.{mapKind, sequenceKind, stringKind, nullKind, noValueKind, intKeyKind}
 use Rattle.row.specs.Words.{word, textPart}
 use Rattle.reading.specs.Buffers.{byKind, keyAt, treeAt, entriesAt, elementsAt, treeIn}
 use Rattle.reading.specs.Counts.{values, entryValues, elementValues, keyLength, textBytes, entryBytes, elementBytes}
 use Rattle.reading.proofs.Outcomes.{counts}
-use Rattle.listing.specs.Numbers.{decimalIn, decimal, hex}
+use Rattle.output.proofs.Lengths.{decimal-length, hex-length}
 use Rattle.listing.specs.Lines.{keyItem, kindName, textItem, ownLines, treeLines, entryLines, elementLines}
 use Rattle.listing.specs.Listing.{answerLines, listing}
-use Rattle.listing.specs.Room.{Room}
+use Rattle.listing.specs.Room.{answerRoom, valueRoom, Room}
 use Rattle.listing.proofs.Writes.{flatten-append}
-
--- A power of ten, which has k + 2 digits.
-abbrev tens : ℕ → ℕ
-tens zero = 10
-tens (suc k) = 10 * tens k
-
-decimal-in-length : (k more n : ℕ) → n < tens k → length (decimalIn more n) ≤ k + 1
-unfolding decimalIn
-decimal-in-length k zero n h = omega arith
-decimal-in-length zero (suc more) n h = rw (lt-ltb n 10 h) (omega arith)
-decimal-in-length (suc k) (suc more) n h =
-    below n 10 (λ g. rw (lt-ltb n 10 g) (omega arith))
-    (λ g. rw (le-ltb n 10 g, length-append) (omega (arith, decimal-in-length k more (n / 10) (omega arith))))
-
-decimal-length : (n : ℕ) → n < 2 ^ 32 → length (decimal n) ≤ 10
-unfolding decimal
-decimal-length n h = decimal-in-length 9 n n (omega arith)
-
-hex-length : (s : List ℕ) → length (hex s) ≡ 2 * length s
-unfolding hex
-hex-length [] = refl
-hex-length (b ∷ s) = omega (arith, hex-length s)
 
 -- Int keys that are u32s.
 abbrev NarrowKey : Key → Type 0
@@ -106,7 +86,7 @@ text-length noValue = omega arith
 text-length uninitialized = omega arith
 
 own-length : (level : ℕ) (key : Option Key) (v : Tree) → level < 2 ^ 32 → NarrowShown key
-    → length (ownLines level key v) ≤ 54 + 2 * (shownBytes key + ownBytes v)
+    → length (ownLines level key v) ≤ valueRoom + 2 * (shownBytes key + ownBytes v)
 unfolding ownLines
 own-length level key v h k = simp length-append (omega (arith, decimal-length level h, key-length key k, kind-length v, text-length v))
 
@@ -114,7 +94,7 @@ mutual
   unfolding treeLines flatten
 
   tree-length : (v : Tree) (level : ℕ) (key : Option Key) → NarrowTree v → NarrowShown key → level + values v ≤ 2 ^ 32
-      → length (flatten (treeLines v level key)) ≤ 54 * values v + 2 * (shownBytes key + textBytes v)
+      → length (flatten (treeLines v level key)) ≤ valueRoom * values v + 2 * (shownBytes key + textBytes v)
   tree-length (map es) level key h k q =
       simp length-append (omega (arith, own-length level key (map es) (omega arith) k, entries-length es (level + 1) h (omega arith)))
   tree-length (sequence xs) level key h k q =
@@ -125,14 +105,14 @@ mutual
   tree-length uninitialized level key h k q = simp length-append (omega (arith, own-length level key uninitialized (omega arith) k))
 
   entries-length : (es : Entries) (level : ℕ) → NarrowEntries es → level + entryValues es ≤ 2 ^ 32
-      → length (flatten (entryLines es level)) ≤ 54 * entryValues es + 2 * entryBytes es
+      → length (flatten (entryLines es level)) ≤ valueRoom * entryValues es + 2 * entryBytes es
   entries-length noEntries level h q = omega arith
   entries-length (entry key v es) level h q =
       rw (flatten-append (treeLines v level (some key)) (entryLines es level), length-append)
       (omega (arith, tree-length v level (some key) (h .1) (h .0) (omega arith), entries-length es level (h .2) (omega arith)))
 
   elements-length : (xs : Elements) (level : ℕ) → NarrowElements xs → level + elementValues xs ≤ 2 ^ 32
-      → length (flatten (elementLines xs level)) ≤ 54 * elementValues xs + 2 * elementBytes xs
+      → length (flatten (elementLines xs level)) ≤ valueRoom * elementValues xs + 2 * elementBytes xs
   elements-length noElements level h q = omega arith
   elements-length (element v xs) level h q =
       rw (flatten-append (treeLines v level none) (elementLines xs level), length-append)
@@ -141,20 +121,18 @@ mutual
 -- The tree in words that are u32s has Int keys that are.
 module _ (words text : List ℕ) (small : (i : ℕ) → getD words i 0 < 2 ^ 32) where
   narrow-key : (i : ℕ) → NarrowKey (keyAt words text i)
-  narrow-key i = go (eqb (word words i 1) 1)
+  unfolding word
+  narrow-key i = go (eqb (word words i keyKindWord) intKeyKind)
     where
-      go : (b : Bool) → NarrowKey (cond b (int (word words i 2)) (str (textPart text (word words i 2) (word words i 3))))
+      go : (b : Bool) → NarrowKey (cond b (int (word words i keyWord)) (str (textPart text (word words i keyWord) (word words i keyLengthWord))))
       go true = small _
       go false = tt
 
   narrow-kind : (k : ℕ) (x : List ℕ) (es : Entries) (xs : Elements) → NarrowEntries es → NarrowElements xs → NarrowTree (byKind k x es xs)
-  narrow-kind zero x es xs g h = tt
-  narrow-kind (suc zero) x es xs g h = g
-  narrow-kind (suc (suc zero)) x es xs g h = h
-  narrow-kind (suc (suc (suc zero))) x es xs g h = tt
-  narrow-kind (suc (suc (suc (suc zero)))) x es xs g h = tt
-  narrow-kind (suc (suc (suc (suc (suc zero))))) x es xs g h = tt
-  narrow-kind (suc (suc (suc (suc (suc (suc k)))))) x es xs g h = tt
+  narrow-kind k x es xs g h =
+      by-test NarrowTree (eqb k mapKind) (λ e. g) (λ e. by-test NarrowTree (eqb k sequenceKind) (λ e. h)
+      (λ e. by-test NarrowTree (eqb k stringKind) (λ e. tt) (λ e. by-test NarrowTree (eqb k nullKind) (λ e. tt)
+      (λ e. by-test NarrowTree (eqb k noValueKind) (λ e. tt) (λ e. tt)))))
 
   narrow-entries : (b : Bool) (es : Entries) → NarrowEntries es → NarrowEntries (cond b noEntries es)
   narrow-entries true es h = tt
@@ -168,36 +146,36 @@ module _ (words text : List ℕ) (small : (i : ℕ) → getD words i 0 < 2 ^ 32)
     narrow-tree-at : (steps i : ℕ) → NarrowTree (treeAt steps words text i)
     narrow-tree-at zero i = tt
     narrow-tree-at (suc steps) i =
-        narrow-kind (word words i 0) (textPart text (word words i 4) (word words i 5)) (entriesAt steps words text (word words i 6))
-        (elementsAt steps words text (word words i 6)) (narrow-entries-at steps (word words i 6)) (narrow-elements-at steps (word words i 6))
+        narrow-kind (word words i kindWord) (textPart text (word words i textWord) (word words i textLengthWord)) (entriesAt steps words text (word words i childWord))
+        (elementsAt steps words text (word words i childWord)) (narrow-entries-at steps (word words i childWord)) (narrow-elements-at steps (word words i childWord))
 
     narrow-entries-at : (steps i : ℕ) → NarrowEntries (entriesAt steps words text i)
     narrow-entries-at zero i = tt
     narrow-entries-at (suc steps) i =
-        narrow-entries (eqb i 0) (entry (keyAt words text i) (treeAt steps words text i) (entriesAt steps words text (word words i 7)))
-        (narrow-key i, narrow-tree-at steps i, narrow-entries-at steps (word words i 7))
+        narrow-entries (eqb i 0) (entry (keyAt words text i) (treeAt steps words text i) (entriesAt steps words text (word words i nextWord)))
+        (narrow-key i, narrow-tree-at steps i, narrow-entries-at steps (word words i nextWord))
 
     narrow-elements-at : (steps i : ℕ) → NarrowElements (elementsAt steps words text i)
     narrow-elements-at zero i = tt
     narrow-elements-at (suc steps) i =
-        narrow-elements (eqb i 0) (element (treeAt steps words text i) (elementsAt steps words text (word words i 7)))
-        (narrow-tree-at steps i, narrow-elements-at steps (word words i 7))
+        narrow-elements (eqb i 0) (element (treeAt steps words text i) (elementsAt steps words text (word words i nextWord)))
+        (narrow-tree-at steps i, narrow-elements-at steps (word words i nextWord))
 
-answer-length : (number place records bytes : ℕ) → number < 2 ^ 32 → place < 2 ^ 32 → records < 2 ^ 32 → bytes < 2 ^ 32
-    → length (answerLines number place records bytes) ≤ 69
+answer-length : (a : Reading) → a .number < 2 ^ 32 → a .place < 2 ^ 32 → a .records < 2 ^ 32 → a .bytes < 2 ^ 32
+    → length (answerLines a) ≤ answerRoom
 unfolding answerLines
-answer-length number place records bytes h i j k =
-    simp length-append (omega (arith, decimal-length number h, decimal-length place i, decimal-length records j, decimal-length bytes k))
+answer-length a h i j k =
+    simp length-append (omega (arith, decimal-length (a .number) h, decimal-length (a .place) i, decimal-length (a .records) j, decimal-length (a .bytes) k))
 
 pub room : Room
 unfolding listing
 room config input words text h =
     let o = reading config input words text in
     let v = treeIn (o .words) (o .text) in
-    let first = answer-length (o .number) (o .place) (o .records) (o .bytes) (h .number) (h .place) (h .records) (h .bytes) in
-    split (eqb (o .number) 0)
+    let first = answer-length (o .answer) (h .number) (h .place) (h .records) (h .bytes) in
+    split (eqb (o .answer .number) 0)
     (λ e.
-    let c = counts config input words text (eqb-true (o .number) 0 e) in
+    let c = counts config input words text (eqb-true (o .answer .number) 0 e) in
     let all = tree-length v 0 none (narrow-tree-at (o .words) (o .text) (h .words) (length (o .words)) 0) tt (omega (arith, c .records, h .records)) in
     rw (e, length-append) (omega (arith, first, all, c .records, c .bytes)))
     (λ e. rw (e, length-append) (omega (arith, first)))

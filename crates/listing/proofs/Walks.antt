@@ -3,16 +3,16 @@ use mathlib.Core.Path.{_≡_, refl, sym, ap, ap₂, _∙_}
 use mathlib.Core.Bool.{Bool, true, false, cond}
 use mathlib.Core.Option.{Option, none, some}
 use mathlib.Core.List.{List, [], _∷_, _++_, flatten}
-use Prim.Native.Nat.{ℕ, zero, suc, _+_, _-_, _*_, _/_, _≤_, _<_}
+use Prim.Native.Nat.{ℕ, zero, suc, _+_, _-_, _*_, _≤_, _<_}
 use native.Mathlib.Omega.{arith}
 use borrow.Author.Tests.{eq-eqb, ne-eqb}
 use lib.Dec.{eqb}
 use lib.ListN.{length, take}
 use lib.Seq.{take-nil}
 use Rattle.key.specs.Keys.{Key}
-use Rattle.row.specs.Row.{recordWidth}
+use Rattle.row.specs.Row.{kindWord, textWord, textLengthWord, childWord, nextWord, mapKind, sequenceKind}
 use Rattle.reading.specs.Trees.{Tree, uninitialized, null, noValue, string, map, sequence, noEntries, entry, noElements, element}
-use Rattle.row.specs.Words.{word, textPart}
+use Rattle.row.specs.Words.{recordCount, word, textPart}
 use Rattle.reading.specs.Buffers.{treeAt, entriesAt, elementsAt, keyAt}
 use Rattle.listing.specs.Lines.{ownLines, treeLines, entryLines, elementLines}
 use Rattle.listing.specs.Bounded.{boundedValues}
@@ -54,38 +54,38 @@ module _ (words text : List ℕ) where
   -- The lines of the values below record i, by its kind.
   abbrev below : ℕ → ℕ → ℕ → List (List ℕ)
   below steps i level =
-      cond (eqb (word words i 0) 1) (childLines true steps words text (word words i 6) level)
-      (cond (eqb (word words i 0) 2) (childLines false steps words text (word words i 6) level) [])
+      cond (eqb (word words i kindWord) mapKind) (childLines true steps words text (word words i childWord) level)
+      (cond (eqb (word words i kindWord) sequenceKind) (childLines false steps words text (word words i childWord) level) [])
 
   tree-more : (steps i level : ℕ) (key : Option Key)
       → treeLines (treeAt (suc steps) words text i) level key ≡ ownLines level key (childless words text i) ∷ below steps i (level + 1)
   tree-more steps i level key =
-      lines-of-kind (word words i 0) (textPart text (word words i 4) (word words i 5)) (entriesAt steps words text (word words i 6))
-      (elementsAt steps words text (word words i 6)) level key
+      lines-of-kind (word words i kindWord) (textPart text (word words i textWord) (word words i textLengthWord)) (entriesAt steps words text (word words i childWord))
+      (elementsAt steps words text (word words i childWord)) level key
 
   below-same : (n g h i level : ℕ)
-      → ((keyed : Bool) → take n (childLines keyed g words text (word words i 6) level) ≡ take n (childLines keyed h words text (word words i 6) level))
+      → ((keyed : Bool) → take n (childLines keyed g words text (word words i childWord) level) ≡ take n (childLines keyed h words text (word words i childWord) level))
       → take n (below g i level) ≡ take n (below h i level)
   below-same n g h i level e =
-      let b = eqb (word words i 0) 1 in
-      let c = eqb (word words i 0) 2 in
-      take-cond n b c (childLines true g words text (word words i 6) level) (childLines false g words text (word words i 6) level)
+      let b = eqb (word words i kindWord) mapKind in
+      let c = eqb (word words i kindWord) sequenceKind in
+      take-cond n b c (childLines true g words text (word words i childWord) level) (childLines false g words text (word words i childWord) level)
       ∙ ap₂ (λ x y. cond b x (cond c y [])) (e true) (e false)
-      ∙ sym (take-cond n b c (childLines true h words text (word words i 6) level) (childLines false h words text (word words i 6) level))
+      ∙ sym (take-cond n b c (childLines true h words text (word words i childWord) level) (childLines false h words text (word words i childWord) level))
 
   child-more : (keyed : Bool) (steps i level : ℕ) → childLines keyed (suc steps) words text i level
-      ≡ cond (eqb i 0) [] (treeLines (treeAt steps words text i) level (keyShown keyed words text i) ++ childLines keyed steps words text (word words i 7) level)
+      ≡ cond (eqb i 0) [] (treeLines (treeAt steps words text i) level (keyShown keyed words text i) ++ childLines keyed steps words text (word words i nextWord) level)
   unfolding treeLines
   child-more true steps i level = go (eqb i 0)
     where
-      go : (b : Bool) → entryLines (cond b noEntries (entry (keyAt words text i) (treeAt steps words text i) (entriesAt steps words text (word words i 7)))) level
-          ≡ cond b [] (treeLines (treeAt steps words text i) level (some (keyAt words text i)) ++ entryLines (entriesAt steps words text (word words i 7)) level)
+      go : (b : Bool) → entryLines (cond b noEntries (entry (keyAt words text i) (treeAt steps words text i) (entriesAt steps words text (word words i nextWord)))) level
+          ≡ cond b [] (treeLines (treeAt steps words text i) level (some (keyAt words text i)) ++ entryLines (entriesAt steps words text (word words i nextWord)) level)
       go true = refl
       go false = refl
   child-more false steps i level = go (eqb i 0)
     where
-      go : (b : Bool) → elementLines (cond b noElements (element (treeAt steps words text i) (elementsAt steps words text (word words i 7)))) level
-          ≡ cond b [] (treeLines (treeAt steps words text i) level none ++ elementLines (elementsAt steps words text (word words i 7)) level)
+      go : (b : Bool) → elementLines (cond b noElements (element (treeAt steps words text i) (elementsAt steps words text (word words i nextWord)))) level
+          ≡ cond b [] (treeLines (treeAt steps words text i) level none ++ elementLines (elementsAt steps words text (word words i nextWord)) level)
       go true = refl
       go false = refl
 
@@ -101,7 +101,7 @@ module _ (words text : List ℕ) where
     tree-enough (suc g) (suc h) (suc n) i level key p q =
         ap (take (suc n)) (tree-more g i level key)
         ∙ ap (λ t. ownLines level key (childless words text i) ∷ t)
-        (below-same n g h i (level + 1) (λ keyed. child-enough g h n keyed (word words i 6) (level + 1) (omega arith) (omega arith)))
+        (below-same n g h i (level + 1) (λ keyed. child-enough g h n keyed (word words i childWord) (level + 1) (omega arith) (omega arith)))
         ∙ sym (ap (take (suc n)) (tree-more h i level key))
 
     child-enough : (g h n : ℕ) (keyed : Bool) (i level : ℕ) → 2 * n ≤ g → 2 * n ≤ h
@@ -113,7 +113,7 @@ module _ (words text : List ℕ) where
     child-enough (suc g) (suc h) zero keyed i level p q = refl
     child-enough (suc g) (suc h) (suc n) keyed i level p q =
         let key = keyShown keyed words text i in
-        let next = word words i 7 in
+        let next = word words i nextWord in
         let values = treeLines (treeAt g words text i) level key in
         let some : 1 ≤ length (take (suc n) values) = some-value (treeAt g words text i) level key n in
         ap (take (suc n)) (child-more keyed g i level)
@@ -125,50 +125,50 @@ module _ (words text : List ℕ) where
   -- The first n values of the value at record i: itself, and the first n - 1 below it.
   value-first : (n i : ℕ) (keyed : Bool) (level : ℕ) → 0 < n → firstOfValue n words text i keyed level
       ≡ recordLines words text i keyed level
-      ∷ cond (eqb (word words i 0) 1) (firstOfSiblings (n - 1) words text (word words i 6) true (level + 1))
-      (cond (eqb (word words i 0) 2) (firstOfSiblings (n - 1) words text (word words i 6) false (level + 1)) [])
+      ∷ cond (eqb (word words i kindWord) mapKind) (firstOfSiblings (n - 1) words text (word words i childWord) true (level + 1))
+      (cond (eqb (word words i kindWord) sequenceKind) (firstOfSiblings (n - 1) words text (word words i childWord) false (level + 1)) [])
   unfolding firstOfValue firstOfSiblings
   value-first zero i keyed level h = absurd (omega arith)
   value-first (suc n) i keyed level h =
       let key = keyShown keyed words text i in
       let own = recordLines words text i keyed level in
-      let b = eqb (word words i 0) 1 in
-      let c = eqb (word words i 0) 2 in
-      let lines : Bool → ℕ → List (List ℕ) = λ k steps. childLines k steps words text (word words i 6) (level + 1) in
+      let b = eqb (word words i kindWord) mapKind in
+      let c = eqb (word words i kindWord) sequenceKind in
+      let lines : Bool → ℕ → List (List ℕ) = λ k steps. childLines k steps words text (word words i childWord) (level + 1) in
       let g = suc (2 * n) in
       let e : 2 * suc n ≡ suc g = omega arith in
       let f : n ≡ suc n - 1 = omega arith in
       ap (λ steps. take (suc n) (treeLines (treeAt steps words text i) level key)) e
       ∙ ap (take (suc n)) (tree-more g i level key)
-      ∙ ap (λ t. own ∷ t) (below-same n g (2 * n) i (level + 1) (λ k. child-enough g (2 * n) n k (word words i 6) (level + 1) (omega arith) (omega arith)))
+      ∙ ap (λ t. own ∷ t) (below-same n g (2 * n) i (level + 1) (λ k. child-enough g (2 * n) n k (word words i childWord) (level + 1) (omega arith) (omega arith)))
       ∙ ap (λ t. own ∷ t) (take-cond n b c (lines true (2 * n)) (lines false (2 * n)))
       ∙ ap (λ m. own ∷ cond b (take m (lines true (2 * m))) (cond c (take m (lines false (2 * m))) [])) f
 
   -- By its kind: a Map, a Sequence, any other.
-  module _ (n i : ℕ) (keyed : Bool) (level : ℕ) (some : 0 < n) {kind : ℕ} (at : kind ≡ word words i 0) where
-    pub map-first : {first : ℕ} → kind ≡ 1 → first ≡ word words i 6 → firstOfValue n words text i keyed level
+  module _ (n i : ℕ) (keyed : Bool) (level : ℕ) (some : 0 < n) {kind : ℕ} (at : kind ≡ word words i kindWord) where
+    pub map-first : {first : ℕ} → kind ≡ mapKind → first ≡ word words i childWord → firstOfValue n words text i keyed level
         ≡ recordLines words text i keyed level ∷ firstOfSiblings (n - 1) words text first true (level + 1)
-    map-first e to = value-first n i keyed level some ∙ rw (eq-eqb (word words i 0) 1 (sym at ∙ e), to)
+    map-first e to = value-first n i keyed level some ∙ rw (eq-eqb (word words i kindWord) mapKind (sym at ∙ e), to)
 
-    pub sequence-first : {first : ℕ} → kind ≡ 2 → first ≡ word words i 6 → firstOfValue n words text i keyed level
+    pub sequence-first : {first : ℕ} → kind ≡ sequenceKind → first ≡ word words i childWord → firstOfValue n words text i keyed level
         ≡ recordLines words text i keyed level ∷ firstOfSiblings (n - 1) words text first false (level + 1)
     sequence-first e to =
-        let f : word words i 0 ≡ 1 → ⊥ = omega arith in
-        value-first n i keyed level some ∙ rw (ne-eqb (word words i 0) 1 f, eq-eqb (word words i 0) 2 (sym at ∙ e), to)
+        let f : word words i kindWord ≡ mapKind → ⊥ = omega arith in
+        value-first n i keyed level some ∙ rw (ne-eqb (word words i kindWord) mapKind f, eq-eqb (word words i kindWord) sequenceKind (sym at ∙ e), to)
 
-    pub single-first : (kind ≡ 1 → ⊥) → (kind ≡ 2 → ⊥) → firstOfValue n words text i keyed level
+    pub single-first : (kind ≡ mapKind → ⊥) → (kind ≡ sequenceKind → ⊥) → firstOfValue n words text i keyed level
         ≡ recordLines words text i keyed level ∷ []
-    single-first e f = value-first n i keyed level some ∙ rw (ne-eqb (word words i 0) 1 (λ g. e (at ∙ g)), ne-eqb (word words i 0) 2 (λ g. f (at ∙ g)))
+    single-first e f = value-first n i keyed level some ∙ rw (ne-eqb (word words i kindWord) mapKind (λ g. e (at ∙ g)), ne-eqb (word words i kindWord) sequenceKind (λ g. f (at ∙ g)))
 
   -- The first n values from record i along its siblings: those of the value there, and then as many as are left of the later ones.
   pub siblings-first : (n i : ℕ) (keyed : Bool) (level : ℕ) → (n ≡ 0 → ⊥) → (i ≡ 0 → ⊥) → firstOfSiblings n words text i keyed level
       ≡ firstOfValue n words text i keyed level
-      ++ firstOfSiblings (n - length (firstOfValue n words text i keyed level)) words text (word words i 7) keyed level
+      ++ firstOfSiblings (n - length (firstOfValue n words text i keyed level)) words text (word words i nextWord) keyed level
   unfolding firstOfValue firstOfSiblings
   siblings-first zero i keyed level h k = absurd (h refl)
   siblings-first (suc n) i keyed level h k =
       let key = keyShown keyed words text i in
-      let next = word words i 7 in
+      let next = word words i nextWord in
       let g = suc (2 * n) in
       let values = treeLines (treeAt g words text i) level key in
       let m = suc n - length (take (suc n) values) in
@@ -191,7 +191,7 @@ module _ (words text : List ℕ) where
       let values = treeLines (treeAt g words text i) level (keyShown keyed words text i) in
       ap (λ steps. take (suc n) (childLines keyed steps words text i level)) f
       ∙ ap (take (suc n)) (child-more keyed g i level)
-      ∙ ap (λ b. take (suc n) (cond b [] (values ++ childLines keyed g words text (word words i 7) level))) (eq-eqb i 0 e)
+      ∙ ap (λ b. take (suc n) (cond b [] (values ++ childLines keyed g words text (word words i nextWord) level))) (eq-eqb i 0 e)
 
   pub first-some : (n i : ℕ) (keyed : Bool) (level : ℕ) → 0 < n → 1 ≤ length (firstOfValue n words text i keyed level)
   first-some n i keyed level h = rw (value-first n i keyed level h) (omega arith)
@@ -201,10 +201,10 @@ module _ (words text : List ℕ) where
   none-left n i keyed level e = rw e
 
   -- From the root on.
-  pub root-first : boundedValues words text ≡ firstOfValue (length words / recordWidth) words text 0 false 0
+  pub root-first : boundedValues words text ≡ firstOfValue (recordCount words) words text 0 false 0
   unfolding firstOfValue
-  root-first = let n = length words / recordWidth in tree-enough (length words) (2 * n) n 0 0 none (omega arith) (omega arith)
+  root-first = let n = recordCount words in tree-enough (length words) (2 * n) n 0 0 none (omega arith) (omega arith)
 
-  pub no-records : length words / recordWidth ≡ 0 → [] ≡ flatten (boundedValues words text)
+  pub no-records : recordCount words ≡ 0 → [] ≡ flatten (boundedValues words text)
   unfolding flatten
   no-records e = sym (rw e)

@@ -5,10 +5,11 @@ use mathlib.Core.List.{List, [], _∷_, _++_, append-assoc, flatten}
 use Prim.Native.Nat.{ℕ, _+_, _-_, _≤_, _<_}
 use native.Mathlib.Omega.{arith}
 use lib.ListN.{length, length-append}
+use Rattle.row.specs.Row.{nextWord}
 use Rattle.row.specs.Words.{word}
-use Rattle.listing.specs.Output.{Page, page, Puts}
+use Rattle.output.specs.Output.{Page, page, Puts}
 use Rattle.listing.specs.Walking.{firstOfValue, firstOfSiblings, Wrote}
-use Rattle.listing.proofs.Pages.{puts-then, puts-same, puts-nothing, Putting, putting-start, putting-more, putting-done}
+use Rattle.output.proofs.Pages.{puts-then, puts-same, puts-nothing, Putting, putting-start, putting-more, putting-done}
 use Rattle.listing.proofs.Walks.{siblings-first}
 
 pub flatten-append : (xs ys : List (List ℕ)) → flatten (xs ++ ys) ≡ flatten xs ++ flatten ys
@@ -41,14 +42,14 @@ going-start whole out at left = record { putting = putting-start (flatten whole)
 
 pub going-turn : (words text : List ℕ) (n : ℕ) (keyed : Bool) (level : ℕ) {whole : List (List ℕ)} {out₀ out out₁ : List ℕ} {at₀ at at₁ left₀ left left₁ n₁ : ℕ}
     → Going (firstOfSiblings left words text n keyed level) whole out₀ out at₀ at left₀ left → (left ≡ 0 → ⊥) → (n ≡ 0 → ⊥)
-    → Wrote (firstOfValue left words text n keyed level) (page out at) (page out₁ at₁) left left₁ → length out₁ ≡ length out → n₁ ≡ word words n 7
+    → Wrote (firstOfValue left words text n keyed level) (page out at) (page out₁ at₁) left left₁ → length out₁ ≡ length out → n₁ ≡ word words n nextWord
     → Going (firstOfSiblings left₁ words text n₁ keyed level) whole out₀ out₁ at₀ at₁ left₀ left₁
 going-turn words text n keyed level {whole} {out₀} {out} {out₁} {at₀} {at} {at₁} {left₀} {left} {left₁} {n₁} v some more w long next =
     let values = firstOfValue left words text n keyed level in
     let later = firstOfSiblings left₁ words text n₁ keyed level in
     let e : left - length values ≡ left₁ = omega (arith, w .count) in
     let f : firstOfSiblings left words text n keyed level ≡ values ++ later =
-    siblings-first words text left n keyed level some more ∙ ap (λ m. values ++ firstOfSiblings m words text (word words n 7) keyed level) e
+    siblings-first words text left n keyed level some more ∙ ap (λ m. values ++ firstOfSiblings m words text (word words n nextWord) keyed level) e
     ∙ ap (λ m. values ++ firstOfSiblings left₁ words text m keyed level) (sym next) in
     record {
       putting = putting-more (v .putting) (ap flatten f ∙ flatten-append values later) (w .lines) long;

@@ -1,25 +1,25 @@
--- What `list` writes, whatever numbers, words and text it is given.
-use Prim.Native.Nat.{ℕ, _/_}
+-- What `list` writes, whatever answer, words and text it is given.
+use Prim.Native.Nat.{ℕ}
 use mathlib.Core.Bool.{cond}
 use mathlib.Core.List.{List, [], _++_, flatten}
 use lib.Dec.{eqb}
-use lib.ListN.{length, take}
-use Rattle.row.specs.Row.{recordWidth}
+use lib.ListN.{take}
+use Rattle.row.specs.Words.{recordCount}
+use Rattle.reading.specs.declared.Reading.{Reading}
 use Rattle.reading.specs.Reading.{Outcome}
 use Rattle.listing.specs.Listing.{answerLines, valueLines}
 
--- The lines of each value from the root on, but of no more values than the words make records. Words that no reading left may lead round in a
--- circle, and this ends the walk then.
+-- The lines of each value from the root on, but of no more values than the words make records. Words that no reading
+-- left may lead round in a circle, and this ends the walk then.
 abbrev pub boundedValues : List ℕ → List ℕ → List (List ℕ)
-boundedValues words text = take (length words / recordWidth) (valueLines words text)
+boundedValues words text = take (recordCount words) (valueLines words text)
 
 -- The listing with that bound. Of a reading's outcome it is the whole listing (specs/Complete).
 unfoldable pub boundedListing : Outcome → List ℕ
 boundedListing o =
     let values = flatten (boundedValues (o .words) (o .text)) in
-    answerLines (o .number) (o .place) (o .records) (o .bytes) ++ cond (eqb (o .number) 0) values []
+    answerLines (o .answer) ++ cond (eqb (o .answer .number) 0) values []
 
--- The outcome of these four numbers, words and text.
-abbrev pub outcomeFrom : ℕ → ℕ → ℕ → ℕ → List ℕ → List ℕ → Outcome
-outcomeFrom number place records bytes words text =
-    record { number = number; place = place; records = records; bytes = bytes; words = words; text = text }
+-- The outcome of an answer, words and text.
+abbrev pub outcomeFrom : Reading → List ℕ → List ℕ → Outcome
+outcomeFrom answer words text = record { answer = answer; words = words; text = text }

@@ -1,10 +1,7 @@
-pub mod Numbers
-pub mod Decimals
 pub mod Lines
 pub mod Listing
 pub mod Bounded
 pub mod Complete
 pub mod Room
-pub mod Output
 pub mod Walking
 pub mod Examples

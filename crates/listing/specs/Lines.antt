@@ -5,8 +5,9 @@ use mathlib.Core.Option.{Option, none, some}
 use mathlib.Core.List.{List, [], _∷_, _++_}
 use Rattle.key.specs.Keys.{Key, int, str}
 use Rattle.ascii.specs.Texts.{ascii}
-use Rattle.reading.specs.Trees.{Tree, uninitialized, null, noValue, string, map, sequence, Entries, noEntries, entry, Elements, noElements, element}
-use Rattle.listing.specs.Numbers.{decimal, hex}
+use Rattle.reading.specs.Trees.{Tree, uninitialized, null, noValue, string, map, sequence}
+use Rattle.reading.specs.Trees.{Entries, noEntries, entry, Elements, noElements, element}
+use Rattle.output.specs.Numbers.{decimal, hex}
 
 -- "one item a line": its name, the item, and a newline.
 abbrev pub line : String → List ℕ → List ℕ
@@ -39,7 +40,8 @@ textItem uninitialized = ascii "-"
 -- The four lines of a value: its level ("distance from the root"), key, kind and text.
 unfoldable pub ownLines : ℕ → Option Key → Tree → List ℕ
 ownLines level key value =
-    line "level=" (decimal level) ++ line "key=" (keyItem key) ++ line "kind=" (ascii (kindName value)) ++ line "text=" (textItem value)
+    line "level=" (decimal level) ++ line "key=" (keyItem key)
+    ++ line "kind=" (ascii (kindName value)) ++ line "text=" (textItem value)
 
 -- The lines of each value of a tree, of a Map's entries and of a Sequence's elements.
 unfoldable mutual

@@ -5,15 +5,17 @@ use mathlib.Core.Option.{none}
 use mathlib.Core.List.{List, [], _++_, flatten}
 use lib.Dec.{eqb}
 use Rattle.ascii.specs.Texts.{ascii}
+use Rattle.reading.specs.declared.Reading.{Reading}
 use Rattle.reading.specs.Reading.{Outcome}
 use Rattle.reading.specs.Buffers.{treeIn}
-use Rattle.listing.specs.Numbers.{decimal}
+use Rattle.output.specs.Numbers.{decimal}
 use Rattle.listing.specs.Lines.{line, treeLines}
 
 -- "First number, place, records, text bytes."
-unfoldable pub answerLines : ℕ → ℕ → ℕ → ℕ → List ℕ
-answerLines number place records bytes =
-    line "answer=" (decimal number) ++ line "place=" (decimal place) ++ line "nodes=" (decimal records) ++ line "bytes=" (decimal bytes)
+unfoldable pub answerLines : Reading → List ℕ
+answerLines a =
+    line "answer=" (decimal (a .number)) ++ line "place=" (decimal (a .place)) ++ line "nodes=" (decimal (a .records))
+    ++ line "bytes=" (decimal (a .bytes))
 
 -- The lines of each value of the tree that words and text hold, from the root on, which has level 0 and no key.
 abbrev pub valueLines : List ℕ → List ℕ → List (List ℕ)
@@ -23,7 +25,7 @@ valueLines words text = treeLines (treeIn words text) 0 none
 unfoldable pub listing : Outcome → List ℕ
 listing o =
     let values = flatten (valueLines (o .words) (o .text)) in
-    answerLines (o .number) (o .place) (o .records) (o .bytes) ++ cond (eqb (o .number) 0) values []
+    answerLines (o .answer) ++ cond (eqb (o .answer .number) 0) values []
 
 -- "A bad head prints only `answer=head`."
 abbrev pub badHead : List ℕ

@@ -7,10 +7,11 @@ use mathlib.Core.List.{List, flatten}
 use lib.ListN.{length, take}
 use Rattle.key.specs.Keys.{Key}
 use Rattle.reading.specs.Trees.{Tree, noEntries, noElements}
+use Rattle.row.specs.Row.{kindWord, textWord, textLengthWord}
 use Rattle.row.specs.Words.{word, textPart}
 use Rattle.reading.specs.Buffers.{byKind, keyAt, treeAt, entriesAt, elementsAt}
 use Rattle.listing.specs.Lines.{ownLines, treeLines, entryLines, elementLines}
-use Rattle.listing.specs.Output.{Page, Puts}
+use Rattle.output.specs.Output.{Page, Puts}
 
 -- A Map's children are keyed, a Sequence's and the root are not.
 abbrev pub keyShown : Bool → List ℕ → List ℕ → ℕ → Option Key
@@ -18,7 +19,9 @@ keyShown keyed words text i = cond keyed (some (keyAt words text i)) none
 
 -- The value at record i without its children.
 abbrev pub childless : List ℕ → List ℕ → ℕ → Tree
-childless words text i = byKind (word words i 0) (textPart text (word words i 4) (word words i 5)) noEntries noElements
+childless words text i =
+    let text′ = textPart text (word words i textWord) (word words i textLengthWord) in
+    byKind (word words i kindWord) text′ noEntries noElements
 
 -- The own lines of the value at record i.
 abbrev pub recordLines : List ℕ → List ℕ → ℕ → Bool → ℕ → List ℕ
@@ -29,10 +32,11 @@ abbrev pub childLines : Bool → ℕ → List ℕ → List ℕ → ℕ → ℕ �
 childLines true steps words text i level = entryLines (entriesAt steps words text i) level
 childLines false steps words text i level = elementLines (elementsAt steps words text i) level
 
--- The first n values of the value at record i; of the values from record i along its siblings. Two steps a value are enough
--- (proofs/Walks: tree-enough, child-enough).
+-- The first n values of the value at record i; of the values from record i along its siblings. Two steps a value are
+-- enough (proofs/Walks: tree-enough, child-enough).
 unfoldable pub firstOfValue : ℕ → List ℕ → List ℕ → ℕ → Bool → ℕ → List (List ℕ)
-firstOfValue n words text i keyed level = take n (treeLines (treeAt (2 * n) words text i) level (keyShown keyed words text i))
+firstOfValue n words text i keyed level =
+    take n (treeLines (treeAt (2 * n) words text i) level (keyShown keyed words text i))
 
 unfoldable pub firstOfSiblings : ℕ → List ℕ → List ℕ → ℕ → Bool → ℕ → List (List ℕ)
 firstOfSiblings n words text i keyed level = take n (childLines keyed (2 * n) words text i level)

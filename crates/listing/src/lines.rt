@@ -2,37 +2,37 @@
 ghost use mathlib.Core.List.{[]};
 ghost use Rattle.ascii.specs.Texts.{ascii};
 ghost use Rattle.reading.specs.Trees.{noEntries, noElements};
+ghost use Rattle.row.specs.Row.{kindWord};
 ghost use Rattle.row.specs.Words.{word};
 ghost use Rattle.reading.specs.Buffers.{byKind};
 ghost use Rattle.listing.specs.Lines.{line, keyItem, kindName, textItem};
 ghost use Rattle.listing.specs.Walking.{keyShown, childless, recordLines};
-ghost use Rattle.listing.specs.Output.{page, Puts};
-use crate::numbers;
-use crate::output;
-use crate::record;
-use records::store;
+ghost use Rattle.output.specs.Output.{page, Puts};
+use output::numbers;
 
 // Writes a value's key: `-` for none, `i` and an Int's value, or `s` and a String's bytes.
 fn write_key(words: &[u32], text: &[u8], n: u32, keyed: bool, out: &mut [u8], at: usize) -> usize
-    ensures { λ r. ⌜ Puts (keyItem (keyShown keyed (now (words .entry)) (now (text .entry)) n)) (page (now (out .entry)) at) (page (now (out .exit)) r) ⌝ }
+    ensures { λ r. ⌜ Puts (keyItem (keyShown keyed (now (words .entry)) (now (text .entry)) n))
+        (page (now (out .entry)) at) (page (now (out .exit)) r) ⌝ }
 {
     if !keyed {
         return output::write_byte(b'-', out, at);
     }
-    let kind = record::get_word(words, n, row::KEY_KIND);
-    let key = record::get_word(words, n, row::KEY);
+    let kind = row::word_or_zero(words, n, row::KEY_KIND);
+    let key = row::word_or_zero(words, n, row::KEY);
     if kind == row::INT_KEY {
         let int = output::write_byte(b'i', out, at);
         return numbers::write_decimal(key as usize, out, int);
     }
-    let len = record::get_word(words, n, row::KEY_LEN);
+    let len = row::word_or_zero(words, n, row::KEY_LEN);
     let bytes = output::write_byte(b's', out, at);
-    numbers::write_hex(record::text_part(text, key, len), out, bytes)
+    numbers::write_hex(row::text_part(text, key, len), out, bytes)
 }
 
 // Writes the name of a kind.
 fn write_kind(kind: u32, out: &mut [u8], at: usize) -> usize
-    ensures { λ r. ⌜ Puts (ascii (kindName (byKind kind [] noEntries noElements))) (page (now (out .entry)) at) (page (now (out .exit)) r) ⌝ }
+    ensures { λ r. ⌜ Puts (ascii (kindName (byKind kind [] noEntries noElements)))
+        (page (now (out .entry)) at) (page (now (out .exit)) r) ⌝ }
 {
     if kind == row::MAP {
         return output::write_bytes(b"map", out, at);
@@ -54,15 +54,16 @@ fn write_kind(kind: u32, out: &mut [u8], at: usize) -> usize
 
 // Writes a String's bytes, or `-` for a value of another kind.
 fn write_text(words: &[u32], text: &[u8], n: u32, out: &mut [u8], at: usize) -> usize
-    ensures { λ r. ⌜ Puts (textItem (childless (now (words .entry)) (now (text .entry)) n)) (page (now (out .entry)) at) (page (now (out .exit)) r) ⌝ }
+    ensures { λ r. ⌜ Puts (textItem (childless (now (words .entry)) (now (text .entry)) n))
+        (page (now (out .entry)) at) (page (now (out .exit)) r) ⌝ }
 {
-    let kind = record::get_word(words, n, row::KIND);
+    let kind = row::word_or_zero(words, n, row::KIND);
     if kind != row::STRING {
         return output::write_byte(b'-', out, at);
     }
-    let offset = record::get_word(words, n, row::TEXT);
-    let len = record::get_word(words, n, row::TEXT_LEN);
-    numbers::write_hex(record::text_part(text, offset, len), out, at)
+    let offset = row::word_or_zero(words, n, row::TEXT);
+    let len = row::word_or_zero(words, n, row::TEXT_LEN);
+    numbers::write_hex(row::text_part(text, offset, len), out, at)
 }
 
 // Writes the line of a value's key.
@@ -74,8 +75,8 @@ fn write_key_line(
     out: &mut [u8],
     at: usize,
 ) -> usize
-    ensures { λ r. ⌜ Puts (line "key=" (keyItem (keyShown keyed (now (words .entry)) (now (text .entry)) n))) (page (now (out .entry)) at)
-        (page (now (out .exit)) r) ⌝ }
+    ensures { λ r. ⌜ Puts (line "key=" (keyItem (keyShown keyed (now (words .entry)) (now (text .entry)) n)))
+        (page (now (out .entry)) at) (page (now (out .exit)) r) ⌝ }
 {
     let item = output::write_bytes(b"key=", out, at);
     let end = write_key(words, text, n, keyed, out, item);
@@ -84,18 +85,19 @@ fn write_key_line(
 
 // Writes the line of a value's kind.
 fn write_kind_line(words: &[u32], n: u32, out: &mut [u8], at: usize) -> usize
-    ensures { λ r. ⌜ Puts (line "kind=" (ascii (kindName (byKind (word (now (words .entry)) n 0) [] noEntries noElements))))
+    ensures { λ r. ⌜ Puts (line "kind="
+        (ascii (kindName (byKind (word (now (words .entry)) n kindWord) [] noEntries noElements))))
         (page (now (out .entry)) at) (page (now (out .exit)) r) ⌝ }
 {
     let item = output::write_bytes(b"kind=", out, at);
-    let end = write_kind(record::get_word(words, n, row::KIND), out, item);
+    let end = write_kind(row::word_or_zero(words, n, row::KIND), out, item);
     output::write_byte(b'\n', out, end)
 }
 
 // Writes the line of a value's text.
 fn write_text_line(words: &[u32], text: &[u8], n: u32, out: &mut [u8], at: usize) -> usize
-    ensures { λ r. ⌜ Puts (line "text=" (textItem (childless (now (words .entry)) (now (text .entry)) n))) (page (now (out .entry)) at)
-        (page (now (out .exit)) r) ⌝ }
+    ensures { λ r. ⌜ Puts (line "text=" (textItem (childless (now (words .entry)) (now (text .entry)) n)))
+        (page (now (out .entry)) at) (page (now (out .exit)) r) ⌝ }
 {
     let item = output::write_bytes(b"text=", out, at);
     let end = write_text(words, text, n, out, item);
@@ -112,7 +114,8 @@ pub(crate) fn write_own(
     out: &mut [u8],
     at: usize,
 ) -> usize
-    ensures { λ r. ⌜ Puts (recordLines (now (words .entry)) (now (text .entry)) n keyed level) (page (now (out .entry)) at) (page (now (out .exit)) r) ⌝ }
+    ensures { λ r. ⌜ Puts (recordLines (now (words .entry)) (now (text .entry)) n keyed level)
+        (page (now (out .entry)) at) (page (now (out .exit)) r) ⌝ }
 {
     let key = numbers::write_number(b"level=", level, out, at);
     let kind = write_key_line(words, text, n, keyed, out, key);

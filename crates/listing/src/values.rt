@@ -1,15 +1,13 @@
-// The walk over the values. The two writers call each other, and hand on the count of records that are left, which falls with each value: so the
-// walk over any words ends, and soon.
+// The walk over the values. The two writers call each other, and hand on the count of records that are left, which
+// falls with each value: so the walk over any words ends, and soon.
 ghost use Prim.Native.Nat.{_+_, _<_, _^_};
 ghost use mathlib.Core.Bool.{cond};
 ghost use mathlib.Core.List.{[], flatten};
 ghost use lib.Dec.{eqb};
 ghost use Rattle.listing.specs.Bounded.{boundedValues};
 ghost use Rattle.listing.specs.Walking.{firstOfValue, firstOfSiblings, Wrote};
-ghost use Rattle.listing.specs.Output.{page, Puts};
+ghost use Rattle.output.specs.Output.{page, Puts};
 use crate::lines;
-use crate::record;
-use records::store;
 
 // The place of the next byte in the output, and how many records are left to be listed.
 pub struct Progress {
@@ -34,8 +32,8 @@ fn write_value(
     let at = lines::write_own(words, text, n, keyed, level, out, from.at);
     let left = from.left - 1;
     let next = Progress { at, left };
-    let kind = record::get_word(words, n, row::KIND);
-    let first = record::get_word(words, n, row::CHILD);
+    let kind = row::word_or_zero(words, n, row::KIND);
+    let first = row::word_or_zero(words, n, row::CHILD);
     if kind == row::MAP {
         return write_map(words, text, first, true, level + 1, out, next);
     }
@@ -69,21 +67,22 @@ fn write_map(
         let next = write_value(words, text, n, keyed, level, out, Progress { at, left });
         at = next.at;
         left = next.left;
-        n = record::get_word(words, n, row::NEXT);
+        n = row::word_or_zero(words, n, row::NEXT);
     }
     Progress { at, left }
 }
 
-// Writes the lines of an accepted outcome's values from the root on, of no more values than the words make records; of a refused one, nothing.
+// Writes the lines of an accepted outcome's values from the root on, of no more values than the words make records; of
+// a refused one, nothing.
 pub(crate) fn write_values(
-    number: usize,
+    number: u32,
     words: &[u32],
     text: &[u8],
     out: &mut [u8],
     at: usize,
 ) -> usize
-    ensures { λ r. ⌜ Puts (cond (eqb number 0) (flatten (boundedValues (now (words .entry)) (now (text .entry)))) []) (page (now (out .entry)) at)
-        (page (now (out .exit)) r) ⌝ }
+    ensures { λ r. ⌜ Puts (cond (eqb number 0) (flatten (boundedValues (now (words .entry)) (now (text .entry)))) [])
+        (page (now (out .entry)) at) (page (now (out .exit)) r) ⌝ }
 {
     if number != 0 {
         return at;

@@ -4,6 +4,7 @@ use mathlib.Core.Bool.{Bool, true, false, cond, not}
 use mathlib.Core.List.{List, [], _∷_, _++_}
 use lib.Dec.{eqb}
 use lib.ListN.{length}
+use Rattle.laws.proofs.Cases.{by-test}
 use Rattle.config.specs.declared.Config.{Config}
 use Rattle.ascii.specs.Bytes.{percent}
 use Rattle.decode.specs.Hex.{isHex}
@@ -18,7 +19,7 @@ use Rattle.reading.specs.Scanning.{root, under, last, Command, skip, ref
 use Rattle.reading.specs.Running.{perform, run}
 use Rattle.reading.specs.Numbers.{NotEmpty, NoEmptyString, NoEmptyStringAmong}
 use Rattle.reading.specs.Covering.{gives, refuses}
-use Rattle.reading.proofs.Results.{Each, gives-over, by-test, each-charge}
+use Rattle.reading.proofs.Results.{Each, gives-over, each-charge}
 use Rattle.reading.proofs.Rules.{Adding, Entering, Passes, at-path, append-obeys, insert-obeys, push-obeys, enter-obeys, map-obeys, sequence-obeys}
 use Rattle.reading.proofs.Changes.{element, two, newChild, newEntry}
 use Rattle.reading.proofs.Runs.{Ends, run-ends}

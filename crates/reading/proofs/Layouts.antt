@@ -8,18 +8,18 @@ use borrow.Author.Tests.{eq-eqb, ne-eqb, ltb-true}
 use lib.Dec.{eqb, ltb}
 use lib.ListN.{length, getD, replicate, length-append, List·getD-append}
 use lib.Seq.{getD-append-add}
+use Rattle.laws.proofs.Cases.{by-test}
 use Rattle.row.specs.Row.{recordWidth, kindWord, keyKindWord, keyWord, keyLengthWord, textWord, textLengthWord, childWord, nextWord}
 use Rattle.row.specs.Words.{word}
 use Rattle.reading.specs.Values.{Label, unkeyed, intKey, stringKey, Row, Value, uninitialized, null, noValue, string, map, sequence, Forest, none, child, Node}
 use Rattle.reading.specs.Charging.{Used}
 use Rattle.reading.specs.Records.{kind, keyWords, textOffset, textLength, first, firstChild, recordWords, recordBelow, recordAmong, recordsFrom, rooted, layout}
 use Rattle.reading.specs.Trees.{plain, entries, elements}
-use Rattle.reading.specs.Buffers.{labelIn, rowIn, valueFrom, forestFrom, nodeIn}
+use Rattle.reading.specs.Buffers.{labelIn, rowIn, valueWithin, forestWithin, nodeIn}
 use Rattle.reading.specs.Counts.{values, entryValues, elementValues}
 use Rattle.reading.specs.Numbers.{tally, below, count, countAll}
 use Rattle.reading.specs.Laid.{LaidLabel, Laid, LaidAll}
 use Rattle.reading.specs.Shape.{Keyed, Unkeyed, SingleValue, isNull, isNoValue, isString, ShapedSequence, Shaped, ShapedMap}
-use Rattle.reading.proofs.Results.{by-test}
 use Rattle.reading.proofs.Laying.{lies-part, laid-more}
 use Rattle.reading.proofs.Held.{Held}
 
@@ -90,7 +90,7 @@ bare-back w t m l k = ap (λ (x : Label). record { label = x }) (go (l .label) k
     go (intKey i) k = absurd k
     go (stringKey o x) k = absurd k
 
-no-children : (g : ℕ) (b : Bool) (w t : List ℕ) → forestFrom g b w t 0 ≡ none
+no-children : (g : ℕ) (b : Bool) (w t : List ℕ) → forestWithin g b w t 0 ≡ none
 no-children zero b w t = refl
 no-children (suc g) b w t = refl
 
@@ -109,7 +109,7 @@ single-shaped isString = tt
 
 mutual
   value-back : (v : Value) (g : ℕ) (w t : List ℕ) (i : ℕ) (l : Row) (ds : Forest) → Recorded w i l v ds → Rows w v → Laid t v → Shaped v
-      → 2 * values (plain v) ≤ g + 1 → valueFrom g w t i ≡ v
+      → 2 * values (plain v) ≤ g + 1 → valueWithin g w t i ≡ v
   value-back uninitialized zero w t i l ds r h z s q = refl
   value-back uninitialized (suc g) w t i l ds r h z s q = rw (r .kind-is)
   value-back null zero w t i l ds r h z s q = absurd (omega arith)
@@ -124,7 +124,7 @@ mutual
   value-back (sequence cs) (suc g) w t i l ds r h z s q = rw (r .kind-is, r .child-is) (ap sequence (sequence-back cs g w t h z s (omega arith)))
 
   map-back : (cs : Forest) (g : ℕ) (w t : List ℕ) → RowsAll w cs → LaidAll t cs → ShapedMap cs → 2 * entryValues (entries cs) ≤ g
-      → forestFrom g true w t (first cs) ≡ cs
+      → forestWithin g true w t (first cs) ≡ cs
   map-back none g w t h z s q = no-children g true w t
   map-back (child m l v cs) zero w t h z s q = absurd (omega (arith, values-some v))
   map-back (child m l v cs) (suc g) w t h z s q =
@@ -137,7 +137,7 @@ mutual
       )
 
   sequence-back : (cs : Forest) (g : ℕ) (w t : List ℕ) → RowsAll w cs → LaidAll t cs → ShapedSequence cs → 2 * elementValues (elements cs) ≤ g
-      → forestFrom g false w t (first cs) ≡ cs
+      → forestWithin g false w t (first cs) ≡ cs
   sequence-back none g w t h z s q = no-children g false w t
   sequence-back (child m l v cs) zero w t h z s q = absurd (omega (arith, values-some v))
   sequence-back (child m l v cs) (suc g) w t h z s q =

@@ -10,7 +10,8 @@ use Rattle.row.specs.Words.{word}
 use Rattle.laws.proofs.Cases.{true-false, both}
 use Rattle.decode.specs.Hex.{digitOf}
 use Rattle.decode.specs.Decoding.{decoded}
-use Rattle.key.specs.Keys.{Key, str, allDigits, valueFrom}
+use Rattle.ascii.specs.Digits.{allDigits, valueFrom}
+use Rattle.key.specs.Keys.{Key, str}
 use Rattle.key.specs.KeyOrder.{compareBytes, compareKeys}
 use Rattle.key.proofs.KeyOrders.{keys-same}
 use Rattle.reading.specs.Trees.{Tree, uninitialized, null, noValue, string, map, sequence, Entries, noEntries, entry, Elements, noElements, element}

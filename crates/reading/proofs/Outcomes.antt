@@ -8,6 +8,7 @@ use borrow.Author.Tests.{ltb-true, ltb-false}
 use lib.Dec.{T, leb, leb→le, ltb}
 use lib.ListN.{length, replicate, length-append, length-replicate}
 use lib.Seq.{drop-at}
+use Rattle.laws.proofs.Cases.{by-test}
 use Rattle.row.specs.Row.{recordWidth}
 use Rattle.refusals.specs.declared.Refusal.{Refusal}
 use Rattle.refusals.specs.declared.Refusal.the-variants.{TooDeep, TooLong, NoRecord}
@@ -29,7 +30,6 @@ use Rattle.reading.specs.TreeHeld.{TreeHeld}
 use Rattle.reading.specs.Counts.{Counted, Counts}
 use Rattle.reading.specs.Numbers.{NoEmptyString}
 use Rattle.reading.specs.Shape.{Shaped, DecidedBelow, WellShaped, Shape}
-use Rattle.reading.proofs.Results.{by-test}
 use Rattle.reading.proofs.Runs.{Ends, refusesAt, run-keeps}
 use Rattle.reading.proofs.Shaped.{perform-shaped}
 use Rattle.reading.proofs.Rising.{Risen, perform-risen}

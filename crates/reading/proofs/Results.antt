@@ -7,6 +7,7 @@ use native.Mathlib.Omega.{arith}
 use borrow.Author.Tests.{ltb-true, ltb-false}
 use lib.Dec.{ltb}
 use lib.ListN.{length, length-append}
+use Rattle.laws.proofs.Cases.{by-test}
 use Rattle.refusals.specs.declared.Refusal.{Refusal}
 use Rattle.refusals.specs.declared.Refusal.the-variants.{TooFewRecords, TooLittleText}
 use Rattle.key.specs.KeyOrder.{choose}
@@ -41,11 +42,6 @@ pub by-order : {A : Type 0} (Q : A → Type 0) (o : Ordering) {a b c : A}
 by-order Q Ordering·lt p q r = p refl
 by-order Q Ordering·eq p q r = q refl
 by-order Q Ordering·gt p q r = r refl
-
--- A choice by a test.
-pub by-test : {A : Type 0} (Q : A → Type 0) (b : Bool) {x y : A} → (b ≡ true → Q x) → (b ≡ false → Q y) → Q (cond b x y)
-by-test Q true p q = p refl
-by-test Q false p q = q refl
 
 -- A charge: what each of its three answers needs.
 pub gives-charge : {A : Type 0} {P : A → Used → Type 0} {R : Refusal → Type 0} (env : Environment) (k : ℕ) (x : List ℕ) (a : A) (u : Used)

@@ -10,7 +10,8 @@ use lib.ListN.{length, length-append}
 use Rattle.config.specs.declared.Config.{Config}
 use Rattle.decode.specs.Decoding.{decoded}
 use Rattle.decode.proofs.Loops.{decoded-le}
-use Rattle.key.specs.Keys.{Key, int, str, valueFrom, isInt, keyOf}
+use Rattle.ascii.specs.Digits.{valueFrom}
+use Rattle.key.specs.Keys.{Key, int, str, isInt, keyOf}
 use Rattle.reading.specs.Values.{Value, uninitialized, null, noValue, string, map, sequence, Forest, none, child, Node, at}
 use Rattle.reading.specs.Leaves.{Leaf, valueOf}
 use Rattle.refusals.specs.declared.Refusal.{Refusal}

@@ -4,7 +4,7 @@ use mathlib.Core.List.{flatten}
 use Rattle.decode.specs.Hex.{digitOf}
 use Rattle.decode.specs.Decoding.{decoded}
 use Rattle.decode.specs.Whatwg.{percentDecode}
-use Rattle.key.specs.Keys.{allDigits, valueFrom}
+use Rattle.ascii.specs.Digits.{allDigits, valueFrom}
 use Rattle.reading.specs.Reading.{read}
 use Rattle.reading.specs.Starred.{StarredPass}
 use Rattle.reading.specs.Others.{OthersPass}

@@ -39,23 +39,23 @@ byKind k s children =
 -- The value of record i; the children from record i along its siblings, keyed where they are a Map's. In at most so
 -- many steps.
 abbrev mutual
-  pub valueFrom : ℕ → List ℕ → List ℕ → ℕ → Value
-  valueFrom zero words text i = uninitialized
-  valueFrom (suc steps) words text i =
+  pub valueWithin : ℕ → List ℕ → List ℕ → ℕ → Value
+  valueWithin zero words text i = uninitialized
+  valueWithin (suc steps) words text i =
       let bytes = textPart text (word words i textWord) (word words i textLengthWord) in
-      let children = forestFrom steps (eqb (word words i kindWord) mapKind) words text (word words i childWord) in
+      let children = forestWithin steps (eqb (word words i kindWord) mapKind) words text (word words i childWord) in
       byKind (word words i kindWord) (string (word words i textWord) bytes) children
 
-  pub forestFrom : ℕ → Bool → List ℕ → List ℕ → ℕ → Forest
-  forestFrom zero keyed words text i = none
-  forestFrom (suc steps) keyed words text i =
-      let later = forestFrom steps keyed words text (word words i nextWord) in
-      let children = child i (rowIn keyed words text i) (valueFrom steps words text i) later in
+  pub forestWithin : ℕ → Bool → List ℕ → List ℕ → ℕ → Forest
+  forestWithin zero keyed words text i = none
+  forestWithin (suc steps) keyed words text i =
+      let later = forestWithin steps keyed words text (word words i nextWord) in
+      let children = child i (rowIn keyed words text i) (valueWithin steps words text i) later in
       cond (eqb i 0) none children
 
 -- The root's value: record 0's. No way down is longer than the words.
 abbrev pub valueIn : List ℕ → List ℕ → Value
-valueIn words text = valueFrom (length words) words text 0
+valueIn words text = valueWithin (length words) words text 0
 
 -- The root with all below it. It has no key.
 abbrev pub nodeIn : List ℕ → List ℕ → Node

@@ -8,6 +8,7 @@ use native.Mathlib.Decide.{decLt}
 use lib.ListN.{length}
 use lib.Dec.{ltb}
 use borrow.Author.Tests.{lt-ltb, le-ltb, le-leb, lt-leb}
+use Rattle.laws.proofs.Cases.{by-test}
 use Rattle.key.specs.Keys.{str}
 use Rattle.records.specs.declared.adding.Appended.the-variants.{Used, TooFew}
 use Rattle.records.specs.declared.siblings.Position.{Position}
@@ -34,7 +35,6 @@ use Rattle.reading.specs.Charging.{Environment, more, Made, made, refused, over
 use Rattle.reading.specs.Charging
 use Rattle.reading.specs.Adding.{mapAt, sequenceAt, leafText, rowAt, valueAt, insertNew, snoc, appendValue, appendEmptyKey, atEntry}
 use Rattle.reading.specs.Laid.{Laid, LaidAll}
-use Rattle.reading.proofs.Results.{by-test}
 use Rattle.reading.proofs.Rules.{append-at-entry}
 use Rattle.reading.proofs.Changes.{element, two as pairOf}
 use Rattle.tree.specs.Nodes.{valueWords, recordOf, below, nodes}

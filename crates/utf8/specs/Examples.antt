@@ -1,14 +1,15 @@
 -- Byte sequences of RFC 3629, each with whether it is UTF-8, decided together in proofs/Examples.
 use Prim.Native.Nat.{ℕ}
 use mathlib.Core.Path.{_≡_}
-use mathlib.Core.List.{List, [], _∷_, map}
+use mathlib.Core.List.{List, [], _∷_, _++_, map}
 use mathlib.Core.Bool.{Bool, true, false}
+use Rattle.ascii.specs.Texts.{ascii}
 use Rattle.utf8.specs.Test.{utf8}
 
 abbrev pub examples : List (List ℕ × Bool)
 examples =
     -- Section 7: U+0041 U+2262 U+0391 U+002E
-    (0x41 ∷ 0xE2 ∷ 0x89 ∷ 0xA2 ∷ 0xCE ∷ 0x91 ∷ 0x2E ∷ [], true)
+    (ascii "A" ++ (0xE2 ∷ 0x89 ∷ 0xA2 ∷ 0xCE ∷ 0x91 ∷ ascii "."), true)
     -- Section 7: U+D55C U+AD6D U+C5B4
     ∷ (0xED ∷ 0x95 ∷ 0x9C ∷ 0xEA ∷ 0xB5 ∷ 0xAD ∷ 0xEC ∷ 0x96 ∷ 0xB4 ∷ [], true)
     -- Section 7: U+65E5 U+672C U+8A9E
@@ -18,7 +19,7 @@ examples =
     -- Section 3: U+0000 in two bytes, overlong
     ∷ (0xC0 ∷ 0x80 ∷ [], false)
     -- Section 10: "/../" with an overlong full stop
-    ∷ (0x2F ∷ 0xC0 ∷ 0xAE ∷ 0x2E ∷ 0x2F ∷ [], false)
+    ∷ (ascii "/" ++ (0xC0 ∷ 0xAE ∷ ascii "./"), false)
     -- Section 3: U+233B4 as a surrogate pair
     ∷ (0xED ∷ 0xA1 ∷ 0x8C ∷ 0xED ∷ 0xBE ∷ 0xB4 ∷ [], false)
     -- the first surrogate, U+D800

@@ -3,8 +3,8 @@ use native.Mathlib.Omega.{arith}
 use borrow.Author.Needs.{needs}
 use lib.ListN.{length}
 use Rattle.listing.specs.Bounded.{boundedListing}
-use Rattle.listing.proofs.Pages.{puts-then}
-use Rattle.listing.proofs.Filled.{all-filled, answered}
+use Rattle.output.proofs.Pages.{puts-then}
+use Rattle.output.proofs.Filled.{all-filled, answered}
 use Rattle.listing.proofs.list.Statement.{statement}
 use Rattle.listing.proofs.list.Tie as tie
 
@@ -14,8 +14,8 @@ write-answer-requires c κs = search needs
 write-values-requires : tie.Need-write-values-requires
 write-values-requires c κs = search needs
 
-answer-requires : tie.Need-answer-requires
-answer-requires c κs = search needs
+answer-at-requires : tie.Need-answer-at-requires
+answer-at-requires c κs = search needs
 
 same-length : tie.Need-same-length
 same-length c = search needs
@@ -26,12 +26,12 @@ returns c =
     let at-write-values = c .before .before .before in
     let at-write-answer = at-write-values .before .before .before .before in
     let p = puts-then (at-write-answer .write-answer .ensures) (at-write-values .write-values .ensures) in (
-      c .answer .ensures ∙ answered _ _ _ _ p (length (at-write-values .write-values .last .1 .1 .1 .0))
-          (omega (arith, at-write-values .write-values .kept .1 .1 .1 .0, at-write-answer .write-answer .kept .1 .1 .1 .1 .0)),
+      c .answer-at .ensures ∙ answered _ _ _ _ p (length (at-write-values .write-values .last .1 .1 .1 .0))
+          (omega (arith, at-write-values .write-values .kept .1 .1 .1 .0, at-write-answer .write-answer .kept .1 .0)),
       all-filled _ _ _ _ p,
     )
 
 pub list-spec : {M : Type 1} → statement M
 list-spec =
     tie.close
-    (tie.spec write-answer-requires write-values-requires answer-requires same-length returns)
+    (tie.spec write-answer-requires write-values-requires answer-at-requires same-length returns)

@@ -1,6 +1,6 @@
 use native.Mathlib.Omega.{arith}
 use borrow.Author.Tests.{not-true, not-false}
-use Rattle.listing.proofs.Pages.{puts-then, puts-same}
+use Rattle.output.proofs.Pages.{puts-then, puts-same}
 use Rattle.listing.proofs.Items.{no-key, int-key, string-key}
 use Rattle.listing.proofs.lines.write_key.Statement.{statement}
 use Rattle.listing.proofs.lines.write_key.Tie as tie
@@ -18,11 +18,11 @@ returns c =
     let s = start .args in puts-same (c .before .before .write-byte .ensures)
     (no-key (s .words .now) (s .text .now) (s .n) (s .keyed) (not-true (s .keyed) (at-if1 .if1 .taken)))
 
-get-word-requires : tie.Need-get-word-requires
-get-word-requires c κs = omega arith
+word-or-zero-requires : tie.Need-word-or-zero-requires
+word-or-zero-requires c κs = omega arith
 
-get-word-requires-2 : tie.Need-get-word-requires-2
-get-word-requires-2 c κs = omega arith
+word-or-zero-requires-2 : tie.Need-word-or-zero-requires-2
+word-or-zero-requires-2 c κs = omega arith
 
 write-byte-requires-2 : tie.Need-write-byte-requires-2
 write-byte-requires-2 c κs = tt
@@ -40,16 +40,16 @@ returns-2 : tie.Need-returns-2
 returns-2 c =
     let at-write-byte2 = c .before .before .before .before .before .before in
     let at-if2 = at-write-byte2 .before .before in
-    let at-get-word2 = at-if2 .before in
-    let at-get-word = at-get-word2 .before in
-    let at-if1 = at-get-word .before in
+    let at-word-or-zero2 = at-if2 .before in
+    let at-word-or-zero = at-word-or-zero2 .before in
+    let at-if1 = at-word-or-zero .before in
     let start = at-if1 .before .before .before .before in
     let s = start .args in puts-same (puts-then (at-write-byte2 .write-byte2 .ensures) (c .before .before .write-decimal .ensures))
-    (int-key (s .words .now) (s .text .now) (s .n) (s .keyed) _ _ (not-false (s .keyed) (at-if1 .if1 .left)) (at-get-word .get-word .ensures)
-    (at-if2 .if2 .taken) (at-get-word2 .get-word2 .ensures))
+    (int-key (s .words .now) (s .text .now) (s .n) (s .keyed) _ _ (not-false (s .keyed) (at-if1 .if1 .left)) (at-word-or-zero .word-or-zero .ensures)
+    (at-if2 .if2 .taken) (at-word-or-zero2 .word-or-zero2 .ensures))
 
-get-word-requires-3 : tie.Need-get-word-requires-3
-get-word-requires-3 c κs = omega arith
+word-or-zero-requires-3 : tie.Need-word-or-zero-requires-3
+word-or-zero-requires-3 c κs = omega arith
 
 write-byte-requires-3 : tie.Need-write-byte-requires-3
 write-byte-requires-3 c κs = tt
@@ -67,15 +67,15 @@ returns-3 : tie.Need-returns-3
 returns-3 c =
     let at-text-part = c .before .before .before .before in
     let at-write-byte3 = at-text-part .before .before .before in
-    let at-get-word3 = at-write-byte3 .before .before in
-    let at-if2 = at-get-word3 .before in
-    let at-get-word2 = at-if2 .before in
-    let at-get-word = at-get-word2 .before in
-    let at-if1 = at-get-word .before in
+    let at-word-or-zero3 = at-write-byte3 .before .before in
+    let at-if2 = at-word-or-zero3 .before in
+    let at-word-or-zero2 = at-if2 .before in
+    let at-word-or-zero = at-word-or-zero2 .before in
+    let at-if1 = at-word-or-zero .before in
     let start = at-if1 .before .before .before .before in
     let s = start .args in puts-same (puts-then (at-write-byte3 .write-byte3 .ensures) (c .before .before .write-hex .ensures))
-    (string-key (s .words .now) (s .text .now) (s .n) (s .keyed) _ _ _ _ (not-false (s .keyed) (at-if1 .if1 .left)) (at-get-word .get-word .ensures)
-    (at-if2 .if2 .left) (at-get-word2 .get-word2 .ensures) (at-get-word3 .get-word3 .ensures) (at-text-part .text-part .ensures))
+    (string-key (s .words .now) (s .text .now) (s .n) (s .keyed) _ _ _ _ (not-false (s .keyed) (at-if1 .if1 .left)) (at-word-or-zero .word-or-zero .ensures)
+    (at-if2 .if2 .left) (at-word-or-zero2 .word-or-zero2 .ensures) (at-word-or-zero3 .word-or-zero3 .ensures) (at-text-part .text-part .ensures))
 
 pub write-key-spec : {M : Type 1} → statement M
 write-key-spec =
@@ -84,14 +84,14 @@ write-key-spec =
     write-byte-requires
     same-length
     returns
-    get-word-requires
-    get-word-requires-2
+    word-or-zero-requires
+    word-or-zero-requires-2
     write-byte-requires-2
     cast-write-decimal
     write-decimal-requires
     same-length-2
     returns-2
-    get-word-requires-3
+    word-or-zero-requires-3
     write-byte-requires-3
     text-part-requires
     write-hex-requires

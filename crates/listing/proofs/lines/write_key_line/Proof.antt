@@ -1,6 +1,6 @@
 use native.Mathlib.Omega.{arith}
 use mathlib.Core.Path.{refl}
-use Rattle.listing.proofs.Pages.{puts-then}
+use Rattle.output.proofs.Pages.{puts-then}
 use Rattle.listing.proofs.lines.write_key_line.Statement.{statement}
 use Rattle.listing.proofs.lines.write_key_line.Tie as tie
 

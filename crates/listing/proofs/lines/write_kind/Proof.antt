@@ -1,5 +1,5 @@
 use mathlib.Core.Path.{refl}
-use Rattle.listing.proofs.Pages.{puts-same}
+use Rattle.output.proofs.Pages.{puts-same}
 use Rattle.listing.proofs.ByKind.{name-is, name-of-other}
 use Rattle.listing.proofs.lines.write_kind.Statement.{statement}
 use Rattle.listing.proofs.lines.write_kind.Tie as tie

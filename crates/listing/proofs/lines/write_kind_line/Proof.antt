@@ -1,7 +1,7 @@
 use native.Mathlib.Omega.{arith}
 use Rattle.listing.proofs.ByKind.{name-is}
 use mathlib.Core.Path.{refl, sym}
-use Rattle.listing.proofs.Pages.{puts-then, puts-same}
+use Rattle.output.proofs.Pages.{puts-then, puts-same}
 use Rattle.listing.proofs.lines.write_kind_line.Statement.{statement}
 use Rattle.listing.proofs.lines.write_kind_line.Tie as tie
 
@@ -11,8 +11,8 @@ slice-aggregate-write-bytes c = refl
 write-bytes-requires : tie.Need-write-bytes-requires
 write-bytes-requires c κs = tt
 
-get-word-requires : tie.Need-get-word-requires
-get-word-requires c κs = omega arith
+word-or-zero-requires : tie.Need-word-or-zero-requires
+word-or-zero-requires c κs = omega arith
 
 write-kind-requires : tie.Need-write-kind-requires
 write-kind-requires c κs = tt
@@ -26,10 +26,10 @@ same-length c = omega arith
 returns : tie.Need-returns
 returns c =
     let at-write-kind = c .before .before .before .before .before .before in
-    let at-get-word = at-write-kind .before .before in
-    let at-write-bytes = at-get-word .before .before .before in
+    let at-word-or-zero = at-write-kind .before .before in
+    let at-write-bytes = at-word-or-zero .before .before .before in
     puts-then (puts-then (at-write-bytes .write-bytes .ensures)
-    (puts-same (at-write-kind .write-kind .ensures) (sym (name-is (at-get-word .get-word .ensures))))) (c .before .before .write-byte .ensures)
+    (puts-same (at-write-kind .write-kind .ensures) (sym (name-is (at-word-or-zero .word-or-zero .ensures))))) (c .before .before .write-byte .ensures)
 
 pub write-kind-line-spec : {M : Type 1} → statement M
 write-kind-line-spec =
@@ -37,7 +37,7 @@ write-kind-line-spec =
     (tie.spec
     slice-aggregate-write-bytes
     write-bytes-requires
-    get-word-requires
+    word-or-zero-requires
     write-kind-requires
     write-byte-requires
     same-length

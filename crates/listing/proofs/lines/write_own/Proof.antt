@@ -1,9 +1,10 @@
 use native.Mathlib.Omega.{arith}
 use mathlib.Core.Path.{refl, ap}
+use Rattle.row.specs.Row.{kindWord}
 use Rattle.row.specs.Words.{word}
 use Rattle.listing.specs.Lines.{line, ownLines}
 use Rattle.listing.proofs.ByKind.{name-of-kind}
-use Rattle.listing.proofs.Pages.{puts-then, puts-same}
+use Rattle.output.proofs.Pages.{puts-then, puts-same}
 use Rattle.listing.proofs.lines.write_own.Statement.{statement}
 use Rattle.listing.proofs.lines.write_own.Tie as tie
 
@@ -34,7 +35,7 @@ returns c =
     let start = at-write-number .before .before .before .before .before .before in
     puts-then (puts-then (puts-then (at-write-number .write-number .ensures) (at-write-key-line .write-key-line .ensures))
     (puts-same (at-write-kind-line .write-kind-line .ensures)
-    (ap (line "kind=") (name-of-kind (word (start .args .words .now) (start .args .n) 0) _ _)))) (c .before .before .write-text-line .ensures)
+    (ap (line "kind=") (name-of-kind (word (start .args .words .now) (start .args .n) kindWord) _ _)))) (c .before .before .write-text-line .ensures)
 
 pub write-own-spec : {M : Type 1} → statement M
 write-own-spec =

@@ -1,14 +1,15 @@
 use native.Mathlib.Omega.{arith}
 use Rattle.listing.proofs.Items.{string-text}
+use Rattle.row.specs.Row.{kindWord}
 use Rattle.row.specs.Words.{word}
-use Rattle.listing.proofs.Pages.{puts-same}
+use Rattle.output.proofs.Pages.{puts-same}
 use Rattle.listing.proofs.ByKind.{text-of-other}
 use mathlib.Core.Path.{_∙_}
 use Rattle.listing.proofs.lines.write_text.Statement.{statement}
 use Rattle.listing.proofs.lines.write_text.Tie as tie
 
-get-word-requires : tie.Need-get-word-requires
-get-word-requires c κs = omega arith
+word-or-zero-requires : tie.Need-word-or-zero-requires
+word-or-zero-requires c κs = omega arith
 
 write-byte-requires : tie.Need-write-byte-requires
 write-byte-requires c κs = tt
@@ -19,16 +20,16 @@ same-length c = c .before .before .write-byte .kept .1 .0
 returns : tie.Need-returns
 returns c =
     let at-if1 = c .before .before .before .before in
-    let at-get-word = at-if1 .before in
-    let start = at-get-word .before .before .before .before in
+    let at-word-or-zero = at-if1 .before in
+    let start = at-word-or-zero .before .before .before .before in
     let s = start .args in puts-same (c .before .before .write-byte .ensures)
-    (text-of-other (word (s .words .now) (s .n) 0) _ (λ e. at-if1 .if1 .taken (at-get-word .get-word .ensures ∙ e)))
+    (text-of-other (word (s .words .now) (s .n) kindWord) _ (λ e. at-if1 .if1 .taken (at-word-or-zero .word-or-zero .ensures ∙ e)))
 
-get-word-requires-2 : tie.Need-get-word-requires-2
-get-word-requires-2 c κs = omega arith
+word-or-zero-requires-2 : tie.Need-word-or-zero-requires-2
+word-or-zero-requires-2 c κs = omega arith
 
-get-word-requires-3 : tie.Need-get-word-requires-3
-get-word-requires-3 c κs = omega arith
+word-or-zero-requires-3 : tie.Need-word-or-zero-requires-3
+word-or-zero-requires-3 c κs = omega arith
 
 text-part-requires : tie.Need-text-part-requires
 text-part-requires c κs = tt
@@ -42,25 +43,25 @@ same-length-2 c = c .before .before .write-hex .kept .1 .0
 returns-2 : tie.Need-returns-2
 returns-2 c =
     let at-text-part = c .before .before .before .before in
-    let at-get-word3 = at-text-part .before in
-    let at-get-word2 = at-get-word3 .before in
-    let at-if1 = at-get-word2 .before in
-    let at-get-word = at-if1 .before in
-    let start = at-get-word .before .before .before .before in
+    let at-word-or-zero3 = at-text-part .before in
+    let at-word-or-zero2 = at-word-or-zero3 .before in
+    let at-if1 = at-word-or-zero2 .before in
+    let at-word-or-zero = at-if1 .before in
+    let start = at-word-or-zero .before .before .before .before in
     let s = start .args in puts-same (c .before .before .write-hex .ensures)
-    (string-text (s .words .now) (s .text .now) (s .n) _ _ _ _ (at-get-word .get-word .ensures) (at-if1 .if1 .left) (at-get-word2 .get-word2 .ensures)
-    (at-get-word3 .get-word3 .ensures) (at-text-part .text-part .ensures))
+    (string-text (s .words .now) (s .text .now) (s .n) _ _ _ _ (at-word-or-zero .word-or-zero .ensures) (at-if1 .if1 .left) (at-word-or-zero2 .word-or-zero2 .ensures)
+    (at-word-or-zero3 .word-or-zero3 .ensures) (at-text-part .text-part .ensures))
 
 pub write-text-spec : {M : Type 1} → statement M
 write-text-spec =
     tie.close
     (tie.spec
-    get-word-requires
+    word-or-zero-requires
     write-byte-requires
     same-length
     returns
-    get-word-requires-2
-    get-word-requires-3
+    word-or-zero-requires-2
+    word-or-zero-requires-3
     text-part-requires
     write-hex-requires
     same-length-2

@@ -13,7 +13,7 @@ use Rattle.listing.proofs.values.write_value.Reads as write-value
 use Rattle.listing.proofs.values.write_value.Kinds as write-value-kinds
 use Rattle.listing.proofs.values.+write_map+write_value.Lts-write_value as write-value-lts
 use Rattle.listing.proofs.lines.write_own.Reads as write-own-reads
-use Rattle.listing.proofs.record.get_word.Reads as get-word-reads
+use Rattle.row.proofs.word_or_zero.Reads as word-or-zero-reads
 use Rattle.listing.proofs.values.+write_map+write_value.{statement}
 use Rattle.listing.proofs.values.+write_map+write_value.Tie.{close}
 
@@ -48,24 +48,24 @@ write-map-μ-loop words text first keyed level out₀ n₀ at₀ left₀ out n a
 write-map-loop-holds : (t : ℕ) → write-map-lts.Need-loop-holds (
   write-value-below t,
   write-value.Post,
-  get-word-reads.Asked,
-  get-word-reads.Learnt,
+  word-or-zero-reads.Asked,
+  word-or-zero-reads.Learnt,
 ) (write-map-at t) write-map.Post write-map-Inv-loop write-map-μ-loop
 write-map-loop-holds t c = going-start _ _ _ _
 
 write-map-same-length : (t : ℕ) → write-map-lts.Need-same-length (
   write-value-below t,
   write-value.Post,
-  get-word-reads.Asked,
-  get-word-reads.Learnt,
+  word-or-zero-reads.Asked,
+  word-or-zero-reads.Learnt,
 ) (write-map-at t) write-map.Post write-map-Inv-loop write-map-μ-loop
 write-map-same-length t c = c .before .before .loop .inv .putting .long
 
 write-map-returns : (t : ℕ) → write-map-lts.Need-returns (
   write-value-below t,
   write-value.Post,
-  get-word-reads.Asked,
-  get-word-reads.Learnt,
+  word-or-zero-reads.Asked,
+  word-or-zero-reads.Learnt,
 ) (write-map-at t) write-map.Post write-map-Inv-loop write-map-μ-loop
 write-map-returns t c =
     let start = c .before .before .before .before .before .before in
@@ -74,8 +74,8 @@ write-map-returns t c =
 write-map-write-value-requires : (t : ℕ) → write-map-lts.Need-write-value-requires (
   write-value-below t,
   write-value.Post,
-  get-word-reads.Asked,
-  get-word-reads.Learnt,
+  word-or-zero-reads.Asked,
+  word-or-zero-reads.Learnt,
 ) (write-map-at t) write-map.Post write-map-Inv-loop write-map-μ-loop
 write-map-write-value-requires t c κs =
     let at-if1 = c .before in
@@ -85,19 +85,19 @@ write-map-write-value-requires t c κs =
       (omega (arith, at-if1 .if1 .left), omega (arith, start .pre .1, at-loop .loop .inv .fewer)),
     )
 
-write-map-get-word-requires : (t : ℕ) → write-map-lts.Need-get-word-requires (
+write-map-word-or-zero-requires : (t : ℕ) → write-map-lts.Need-word-or-zero-requires (
   write-value-below t,
   write-value.Post,
-  get-word-reads.Asked,
-  get-word-reads.Learnt,
+  word-or-zero-reads.Asked,
+  word-or-zero-reads.Learnt,
 ) (write-map-at t) write-map.Post write-map-Inv-loop write-map-μ-loop
-write-map-get-word-requires t c κs = omega arith
+write-map-word-or-zero-requires t c κs = omega arith
 
 write-map-loop-less : (t : ℕ) → write-map-lts.Need-loop-less (
   write-value-below t,
   write-value.Post,
-  get-word-reads.Asked,
-  get-word-reads.Learnt,
+  word-or-zero-reads.Asked,
+  word-or-zero-reads.Learnt,
 ) (write-map-at t) write-map.Post write-map-Inv-loop write-map-μ-loop
 write-map-loop-less t c =
     let at-write-value = c .before .before .before in
@@ -114,8 +114,8 @@ write-map-loop-less t c =
 write-map-loop-again : (t : ℕ) → write-map-lts.Need-loop-again (
   write-value-below t,
   write-value.Post,
-  get-word-reads.Asked,
-  get-word-reads.Learnt,
+  word-or-zero-reads.Asked,
+  word-or-zero-reads.Learnt,
 ) (write-map-at t) write-map.Post write-map-Inv-loop write-map-μ-loop
 write-map-loop-again t c =
     let at-write-value = c .before .before .before in
@@ -124,21 +124,21 @@ write-map-loop-again t c =
     let at-loop = at-loop-test .before in
     let start = at-loop .before .before .before .before in
     going-turn (start .args .words .now) (start .args .text .now) _ _ _ (at-loop .loop .inv) (at-if1 .if1 .left) (at-loop-test .loop-test .taken)
-    (at-write-value .write-value .ensures) (at-write-value .write-value .kept .1 .1 .1 .1 .1 .0) (c .get-word .ensures)
+    (at-write-value .write-value .ensures) (at-write-value .write-value .kept .1 .1 .1 .1 .1 .0) (c .word-or-zero .ensures)
 
 write-map-same-length-2 : (t : ℕ) → write-map-lts.Need-same-length-2 (
   write-value-below t,
   write-value.Post,
-  get-word-reads.Asked,
-  get-word-reads.Learnt,
+  word-or-zero-reads.Asked,
+  word-or-zero-reads.Learnt,
 ) (write-map-at t) write-map.Post write-map-Inv-loop write-map-μ-loop
 write-map-same-length-2 t c = c .before .loop .inv .putting .long
 
 write-map-returns-2 : (t : ℕ) → write-map-lts.Need-returns-2 (
   write-value-below t,
   write-value.Post,
-  get-word-reads.Asked,
-  get-word-reads.Learnt,
+  word-or-zero-reads.Asked,
+  word-or-zero-reads.Learnt,
 ) (write-map-at t) write-map.Post write-map-Inv-loop write-map-μ-loop
 write-map-returns-2 t c =
     let start = c .before .before .before .before .before in
@@ -147,8 +147,8 @@ write-map-returns-2 t c =
 write-value-write-own-requires : (t : ℕ) → write-value-lts.Need-write-own-requires (
   write-own-reads.Asked,
   write-own-reads.Learnt,
-  get-word-reads.Asked,
-  get-word-reads.Learnt,
+  word-or-zero-reads.Asked,
+  word-or-zero-reads.Learnt,
   write-map-below t,
   write-map.Post,
 ) (write-value-at t) write-value.Post
@@ -157,38 +157,38 @@ write-value-write-own-requires t c κs = tt
 write-value-sub-left : (t : ℕ) → write-value-lts.Need-sub-left (
   write-own-reads.Asked,
   write-own-reads.Learnt,
-  get-word-reads.Asked,
-  get-word-reads.Learnt,
+  word-or-zero-reads.Asked,
+  word-or-zero-reads.Learnt,
   write-map-below t,
   write-map.Post,
 ) (write-value-at t) write-value.Post
 write-value-sub-left t c = omega arith
 
-write-value-get-word-requires : (t : ℕ) → write-value-lts.Need-get-word-requires (
+write-value-word-or-zero-requires : (t : ℕ) → write-value-lts.Need-word-or-zero-requires (
   write-own-reads.Asked,
   write-own-reads.Learnt,
-  get-word-reads.Asked,
-  get-word-reads.Learnt,
+  word-or-zero-reads.Asked,
+  word-or-zero-reads.Learnt,
   write-map-below t,
   write-map.Post,
 ) (write-value-at t) write-value.Post
-write-value-get-word-requires t c κs = omega arith
+write-value-word-or-zero-requires t c κs = omega arith
 
-write-value-get-word-requires-2 : (t : ℕ) → write-value-lts.Need-get-word-requires-2 (
+write-value-word-or-zero-requires-2 : (t : ℕ) → write-value-lts.Need-word-or-zero-requires-2 (
   write-own-reads.Asked,
   write-own-reads.Learnt,
-  get-word-reads.Asked,
-  get-word-reads.Learnt,
+  word-or-zero-reads.Asked,
+  word-or-zero-reads.Learnt,
   write-map-below t,
   write-map.Post,
 ) (write-value-at t) write-value.Post
-write-value-get-word-requires-2 t c κs = omega arith
+write-value-word-or-zero-requires-2 t c κs = omega arith
 
 write-value-add-write-map : (t : ℕ) → write-value-lts.Need-add-write-map (
   write-own-reads.Asked,
   write-own-reads.Learnt,
-  get-word-reads.Asked,
-  get-word-reads.Learnt,
+  word-or-zero-reads.Asked,
+  word-or-zero-reads.Learnt,
   write-map-below t,
   write-map.Post,
 ) (write-value-at t) write-value.Post
@@ -197,8 +197,8 @@ write-value-add-write-map t c = omega arith
 write-value-write-map-requires : (t : ℕ) → write-value-lts.Need-write-map-requires (
   write-own-reads.Asked,
   write-own-reads.Learnt,
-  get-word-reads.Asked,
-  get-word-reads.Learnt,
+  word-or-zero-reads.Asked,
+  word-or-zero-reads.Learnt,
   write-map-below t,
   write-map.Post,
 ) (write-value-at t) write-value.Post
@@ -209,8 +209,8 @@ write-value-write-map-requires t c κs =
 write-value-same-length : (t : ℕ) → write-value-lts.Need-same-length (
   write-own-reads.Asked,
   write-own-reads.Learnt,
-  get-word-reads.Asked,
-  get-word-reads.Learnt,
+  word-or-zero-reads.Asked,
+  word-or-zero-reads.Learnt,
   write-map-below t,
   write-map.Post,
 ) (write-value-at t) write-value.Post
@@ -219,26 +219,26 @@ write-value-same-length t c = omega arith
 write-value-returns : (t : ℕ) → write-value-lts.Need-returns (
   write-own-reads.Asked,
   write-own-reads.Learnt,
-  get-word-reads.Asked,
-  get-word-reads.Learnt,
+  word-or-zero-reads.Asked,
+  word-or-zero-reads.Learnt,
   write-map-below t,
   write-map.Post,
 ) (write-value-at t) write-value.Post
 write-value-returns t c =
     let at-if1 = c .before .before .before .before in
-    let at-get-word2 = at-if1 .before in
-    let at-get-word = at-get-word2 .before in
-    let at-write-own = at-get-word .before .before .before .before in
+    let at-word-or-zero2 = at-if1 .before in
+    let at-word-or-zero = at-word-or-zero2 .before in
+    let at-write-own = at-word-or-zero .before .before .before .before in
     let start = at-write-own .before .before .before .before .before in
-    let s = start .args in wrote-own (map-first (s .words .now) (s .text .now) _ (s .n) _ _ (start .pre .1 .0) (at-get-word .get-word .ensures)
-    (at-if1 .if1 .taken) (at-get-word2 .get-word2 .ensures)) (start .pre .1 .0) (at-write-own .write-own .ensures)
+    let s = start .args in wrote-own (map-first (s .words .now) (s .text .now) _ (s .n) _ _ (start .pre .1 .0) (at-word-or-zero .word-or-zero .ensures)
+    (at-if1 .if1 .taken) (at-word-or-zero2 .word-or-zero2 .ensures)) (start .pre .1 .0) (at-write-own .write-own .ensures)
     (c .before .before .write-map .ensures)
 
 write-value-add-write-map-2 : (t : ℕ) → write-value-lts.Need-add-write-map-2 (
   write-own-reads.Asked,
   write-own-reads.Learnt,
-  get-word-reads.Asked,
-  get-word-reads.Learnt,
+  word-or-zero-reads.Asked,
+  word-or-zero-reads.Learnt,
   write-map-below t,
   write-map.Post,
 ) (write-value-at t) write-value.Post
@@ -247,8 +247,8 @@ write-value-add-write-map-2 t c = omega arith
 write-value-write-map-requires-2 : (t : ℕ) → write-value-lts.Need-write-map-requires-2 (
   write-own-reads.Asked,
   write-own-reads.Learnt,
-  get-word-reads.Asked,
-  get-word-reads.Learnt,
+  word-or-zero-reads.Asked,
+  word-or-zero-reads.Learnt,
   write-map-below t,
   write-map.Post,
 ) (write-value-at t) write-value.Post
@@ -259,8 +259,8 @@ write-value-write-map-requires-2 t c κs =
 write-value-same-length-2 : (t : ℕ) → write-value-lts.Need-same-length-2 (
   write-own-reads.Asked,
   write-own-reads.Learnt,
-  get-word-reads.Asked,
-  get-word-reads.Learnt,
+  word-or-zero-reads.Asked,
+  word-or-zero-reads.Learnt,
   write-map-below t,
   write-map.Post,
 ) (write-value-at t) write-value.Post
@@ -269,26 +269,26 @@ write-value-same-length-2 t c = omega arith
 write-value-returns-2 : (t : ℕ) → write-value-lts.Need-returns-2 (
   write-own-reads.Asked,
   write-own-reads.Learnt,
-  get-word-reads.Asked,
-  get-word-reads.Learnt,
+  word-or-zero-reads.Asked,
+  word-or-zero-reads.Learnt,
   write-map-below t,
   write-map.Post,
 ) (write-value-at t) write-value.Post
 write-value-returns-2 t c =
     let at-if2 = c .before .before .before .before in
-    let at-get-word2 = at-if2 .before .before in
-    let at-get-word = at-get-word2 .before in
-    let at-write-own = at-get-word .before .before .before .before in
+    let at-word-or-zero2 = at-if2 .before .before in
+    let at-word-or-zero = at-word-or-zero2 .before in
+    let at-write-own = at-word-or-zero .before .before .before .before in
     let start = at-write-own .before .before .before .before .before in
-    let s = start .args in wrote-own (sequence-first (s .words .now) (s .text .now) _ (s .n) _ _ (start .pre .1 .0) (at-get-word .get-word .ensures)
-    (at-if2 .if2 .taken) (at-get-word2 .get-word2 .ensures)) (start .pre .1 .0) (at-write-own .write-own .ensures)
+    let s = start .args in wrote-own (sequence-first (s .words .now) (s .text .now) _ (s .n) _ _ (start .pre .1 .0) (at-word-or-zero .word-or-zero .ensures)
+    (at-if2 .if2 .taken) (at-word-or-zero2 .word-or-zero2 .ensures)) (start .pre .1 .0) (at-write-own .write-own .ensures)
     (c .before .before .write-map2 .ensures)
 
 write-value-same-length-3 : (t : ℕ) → write-value-lts.Need-same-length-3 (
   write-own-reads.Asked,
   write-own-reads.Learnt,
-  get-word-reads.Asked,
-  get-word-reads.Learnt,
+  word-or-zero-reads.Asked,
+  word-or-zero-reads.Learnt,
   write-map-below t,
   write-map.Post,
 ) (write-value-at t) write-value.Post
@@ -297,24 +297,24 @@ write-value-same-length-3 t c = omega arith
 write-value-returns-3 : (t : ℕ) → write-value-lts.Need-returns-3 (
   write-own-reads.Asked,
   write-own-reads.Learnt,
-  get-word-reads.Asked,
-  get-word-reads.Learnt,
+  word-or-zero-reads.Asked,
+  word-or-zero-reads.Learnt,
   write-map-below t,
   write-map.Post,
 ) (write-value-at t) write-value.Post
 write-value-returns-3 t c =
-    let at-get-word = c .before .before .before in
-    let at-write-own = at-get-word .before .before .before .before in
+    let at-word-or-zero = c .before .before .before in
+    let at-write-own = at-word-or-zero .before .before .before .before in
     let start = at-write-own .before .before .before .before .before in
-    let s = start .args in wrote-own (single-first (s .words .now) (s .text .now) _ (s .n) _ _ (start .pre .1 .0) (at-get-word .get-word .ensures)
+    let s = start .args in wrote-own (single-first (s .words .now) (s .text .now) _ (s .n) _ _ (start .pre .1 .0) (at-word-or-zero .word-or-zero .ensures)
     (c .before .if1 .left) (c .if2 .left)) (start .pre .1 .0) (at-write-own .write-own .ensures) (wrote-none _ _)
 
 pub +write-map+write-value-spec : {M : Type 1} → statement M
 +write-map+write-value-spec = close μ-write-map μ-write-value (λ t. write-map-lts.spec (
   write-value-below t,
   write-value.Post,
-  get-word-reads.Asked,
-  get-word-reads.Learnt,
+  word-or-zero-reads.Asked,
+  word-or-zero-reads.Learnt,
 )
     (write-map-at t)
     write-map.Post
@@ -324,7 +324,7 @@ pub +write-map+write-value-spec : {M : Type 1} → statement M
     (write-map-same-length t)
     (write-map-returns t)
     (write-map-write-value-requires t)
-    (write-map-get-word-requires t)
+    (write-map-word-or-zero-requires t)
     (write-map-loop-less t)
     (write-map-loop-again t)
     (write-map-same-length-2 t)
@@ -332,8 +332,8 @@ pub +write-map+write-value-spec : {M : Type 1} → statement M
     λ t. write-value-lts.spec (
       write-own-reads.Asked,
       write-own-reads.Learnt,
-      get-word-reads.Asked,
-      get-word-reads.Learnt,
+      word-or-zero-reads.Asked,
+      word-or-zero-reads.Learnt,
       write-map-below t,
       write-map.Post,
     )
@@ -341,8 +341,8 @@ pub +write-map+write-value-spec : {M : Type 1} → statement M
     write-value.Post
     (write-value-write-own-requires t)
     (write-value-sub-left t)
-    (write-value-get-word-requires t)
-    (write-value-get-word-requires-2 t)
+    (write-value-word-or-zero-requires t)
+    (write-value-word-or-zero-requires-2 t)
     (write-value-add-write-map t)
     (write-value-write-map-requires t)
     (write-value-same-length t)

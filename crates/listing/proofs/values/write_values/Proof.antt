@@ -2,7 +2,7 @@ use native.Mathlib.Omega.{arith}
 use mathlib.Core.Path.{sym, ap}
 use mathlib.Core.List.{flatten}
 use borrow.Author.Tests.{eq-eqb, ne-eqb}
-use Rattle.listing.proofs.Pages.{puts-nothing, puts-same}
+use Rattle.output.proofs.Pages.{puts-nothing, puts-same}
 use Rattle.listing.proofs.Walks.{root-first, no-records}
 use Rattle.listing.proofs.values.write_values.Statement.{statement}
 use Rattle.listing.proofs.values.write_values.Tie as tie

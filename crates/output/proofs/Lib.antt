@@ -1,0 +1,4 @@
+pub mod Pages
+pub mod Digits
+pub mod Lengths
+pub mod Filled
