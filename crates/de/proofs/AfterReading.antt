@@ -2,195 +2,154 @@
 use Prim.Native.Nat.{ℕ, _+_, _<_, _≤_}
 use mathlib.Core.Path.{_≡_, refl, ap, sym, _∙_, subst}
 use mathlib.Core.Logic.{_≢_}
-use mathlib.Core.Bool.{false, cond}
 use mathlib.Core.List.{List}
 use native.Mathlib.Omega.{arith}
-use lib.Dec.{leb}
-use lib.ListN.{length, replicate}
-use borrow.Author.Tests.{ne-eqb}
-use Rattle.config.specs.declared.Config.{Config}
-use Rattle.config.specs.Limits.{maxLen}
-use Rattle.reading.specs.Values.{unkeyed, Value}
-use Rattle.reading.specs.Running.{Answer, accepted, refusedAt, Accepts, accepts}
-use Rattle.reading.specs.Reading.{Outcome, lentBy, parsed, outcome, reading}
-use Rattle.reading.proofs.Laying.{laid-more}
-use Rattle.reading.proofs.Outcomes.{Sound, of-accepted}
-use Rattle.reading.proofs.Placed.{placed}
+use lib.ListN.{length}
 use Rattle.row.specs.Words.{recordCount}
+use Rattle.refusals.proofs.Codes.{code-some}
+use Rattle.config.specs.declared.Config.{Config}
+use Rattle.reading.specs.declared.Reading.{Reading}
+use Rattle.reading.specs.Values.{Node}
+use Rattle.reading.specs.Charging.{Used}
+use Rattle.reading.specs.Running.{accepted}
+use Rattle.reading.specs.Reading.{Outcome, lentBy, outcome, Read, passed, met, read, after, outcomeOf}
+use Rattle.reading.proofs.Laying.{laid-more}
+use Rattle.reading.proofs.Outcomes.{Sound}
 use Rattle.records.proofs.Forests.{indicator-same}
+use Rattle.parse.specs.declared.Parsed.{Parsed}
+use Rattle.parse.specs.Outcomes.{answerOf, outcomeOf as parsedOutcome}
 use Rattle.de.specs.declared.DuplicateKeyBehavior.{DuplicateKeyBehavior}
 use Rattle.de.specs.declared.FieldRead.{FieldRead}
-use Rattle.refusals.specs.declared.Refusal.{Refusal}
-use Rattle.refusals.specs.declared.Refusal.the-variants.{WrongRoot, NoSuchField, WrongKind, SeveralValues, MissingIndex}
-use Rattle.refusals.specs.declared.Refusal.the-variants.{NotUtf8, ShortSlice}
 use Rattle.de.specs.declared.text.TextRead.{TextRead}
 use Rattle.de.specs.declared.list.ListRead.{ListRead}
-use Rattle.parse.specs.declared.Parsed.{Parsed}
-use Rattle.parse.specs.declared.Parsed.the-variants.{Accepted, Refused}
-use Rattle.parse.specs.Outcomes.{outcomeOf}
-use Rattle.refusals.specs.Codes.{code}
 use Rattle.de.specs.Fields.{rootField}
 use Rattle.de.specs.Lists.{Listed}
-use Rattle.de.specs.Reads.{TextOutcome, ListOutcome, textAnswer, textOfField, textAfter, textRead, listAnswer, listWords, listOfField, listAfter, listRead}
-use Rattle.de.specs.OnRecords.{Readable, fieldAt, fieldTextAt, fieldListAt, elementCount, listReadAnswer, Writes, wrote, stopped}
+use Rattle.de.specs.Reads.{TextOutcome, ListOutcome, leaving, unread, textAnswer, textOfField, textAfter, textRead, listOfField, listOutcome, listAfter, leftIn, unlisted, listRead}
+use Rattle.de.specs.OnRecords.{Readable, fieldAt, fieldTextAt, fieldListAt, elementCount, listReadAnswer, leftBy, Writes, wrote, stopped}
 use Rattle.de.proofs.Stored.{left, filled, stores, readable, some-record}
 use Rattle.de.proofs.Agree.{At, field-agrees, field-text, field-list}
 use Rattle.de.proofs.Few.{FewElements, few}
+use Rattle.de.proofs.Went.{Went, accepting, refusing, went}
 
--- The outcome of an accepted reading, with its tree.
-abbrev pub Read : List ℕ → List ℕ → Outcome → Value → ℕ → List ℕ → Type 0
-Read words text o v n t = Sound (lentBy words text) v n t × (o ≡ outcome (length words) (length text) (accepted v n t))
+-- The records of an accepted reading, and what is found at their root.
+module _ (words text : List ℕ) {v : Node} {u : Used} (s : Sound (lentBy words text) v u) where
+  abbrev o : Outcome
+  o = outcome (length words) (length text) (accepted v u)
 
--- What is found at the root of its buffers.
-module _ (words text : List ℕ) {v : Value} {n : ℕ} {t : List ℕ} (s : Sound (lentBy words text) v n t) where
-  root-at : At (left words text v n t s) (filled words text v n t s) 0 unkeyed v
+  root-at : At (left words text v u s) (filled words text v u s) 0 (v .row) (v .value)
   root-at =
-      let h = stores words text v n t s .holds in
+      let h = stores words text v u s .holds in
       record {
         later = 0;
         row = h .represents .0;
         represents = h .represents .1;
-        texts = laid-more t _ v (s .held .texts);
+        texts = laid-more (u .text) _ (v .value) (s .held .texts);
         no-root = omega (arith, h .once 0 (s .risen .some), indicator-same 0);
         small = omega (arith, h .sized, h .room);
       }
 
--- Refusals 16 to 22 come after 3, under which a list keeps what it held.
-late : (x : Refusal) → leb (code x) 3 ≡ false
-late WrongRoot = refl
-late NoSuchField = refl
-late WrongKind = refl
-late SeveralValues = refl
-late MissingIndex = refl
-late NotUtf8 = refl
-late ShortSlice = refl
+  can-read : Readable (o .words) (o .text) × (0 < recordCount (o .words))
+  can-read = (readable words text v u s, some-record words text v u s)
 
--- The buffers of an accepted outcome.
-module _ (words text : List ℕ) {W X : List ℕ} {o : Outcome} {records bytes : ℕ}
-    (e : o ≡ record { number = 0; place = 0; records = records; bytes = bytes; words = W; text = X }) where
-  module _ {v : Value} {n : ℕ} {t : List ℕ} (k : Read words text o v n t) where
-    words-are : left words text v n t (k .0) ≡ W
-    words-are = ap (λ (y : Outcome). y .words) (sym (k .1) ∙ e)
+  text-found : (d : DuplicateKeyBehavior) (name : List ℕ)
+      → fieldTextAt d (o .words) (o .text) (fieldAt (o .words) (o .text) name) ≡ textOfField d (rootField name (v .value))
+  text-found d name = field-text d (field-agrees name (v .value) root-at)
 
-    text-is : filled words text v n t (k .0) ≡ X
-    text-is = ap (λ (y : Outcome). y .text) (sym (k .1) ∙ e)
+  list-found : (d : DuplicateKeyBehavior) (name : List ℕ) (size : ℕ)
+      → fieldListAt d (o .words) (o .text) size (fieldAt (o .words) (o .text) name) ≡ listOfField d size (rootField name (v .value))
+  list-found d name size = field-list d size (field-agrees name (v .value) root-at)
 
-    at-root : At W X 0 unkeyed v
-    at-root = rw (← words-are, ← text-is) (root-at words text (k .0))
+  few-found : (d : DuplicateKeyBehavior) (name : List ℕ) (size : ℕ) → FewElements (o .answer .records) (listOfField d size (rootField name (v .value)))
+  few-found d name size = few d size name (v .value) (omega (arith, stores words text v u s .holds .sized))
 
-  pub can-read : {a : Answer} → Accepts (Read words text o) a → Readable W X × (0 < recordCount W)
-  can-read (accepts {tree = v} {used = n} {text = t} k) =
-      rw (← words-are k, ← text-is k) (readable words text v n t (k .0), some-record words text v n t (k .0))
+-- The ends of the public calls, by the number that the reading answers: parse's answer as the four numbers, and what it leaves.
+module _ (config : Config) (input words text W X : List ℕ) (p : Parsed) {reading : Reading} (told : reading ≡ answerOf p)
+    (ensured : parsedOutcome p W X ≡ outcomeOf (read config input words text)) where
+  abbrev after-it : Outcome
+  after-it = record { answer = reading; words = W; text = X }
 
-  text-read : (d : DuplicateKeyBehavior) (name : List ℕ) {a : Answer} → Accepts (Read words text o) a
-      → _≡_ {A = TextOutcome} (record { answer = textAnswer records bytes (fieldTextAt d W X (fieldAt W X name)); words = W; text = X })
-      (textAfter o a (λ tree. textOfField d (rootField name tree)))
-  text-read d name (accepts {tree = v} k) =
-      rw e (ap (λ (y : TextRead). record { answer = textAnswer records bytes y; words = W; text = X }) (field-text d (field-agrees name v (at-root k))))
+  e : after-it ≡ outcomeOf (read config input words text)
+  e = rw told ensured
 
-  element-count : (d : DuplicateKeyBehavior) (name : List ℕ) (size : ℕ) {l : List ℕ} {r : ListRead} {a : Answer} → Accepts (Read words text o) a
-      → Writes size l (fieldListAt d W X size (fieldAt W X name)) r → elementCount r ≤ records
-  element-count d name size {l} {r} (accepts {tree = v} {used = n} {text = t} k) h =
-      go (few d size name v (omega (arith, stores words text v n t (k .0) .holds .sized, ap (λ (y : Outcome). y .records) (sym (k .1) ∙ e))))
-      (subst (λ (y : Listed). Writes size l y r) (field-list d size (field-agrees name v (at-root k))) h)
-    where
-      go : {whole : Listed} {q : ListRead} → FewElements records whole → Writes size l whole q → elementCount q ≤ records
-      go f (wrote z) = f
-      go f (stopped z) = omega arith
-
-  list-read : (d : DuplicateKeyBehavior) (name list l l′ : List ℕ) {r : ListRead} {a : Answer} → Accepts (Read words text o) a
-      → Writes (length list) l (fieldListAt d W X (length list) (fieldAt W X name)) r
-      → l′ ≡ cond (leb (listReadAnswer records bytes r .number) 3) l (replicate (length l) 0)
-      → _≡_ {A = ListOutcome} (record { read = record { answer = listReadAnswer records bytes r; words = W; text = X }; list = l′ })
-      (listAfter o list a (λ tree. listOfField d (length list) (rootField name tree)))
-  list-read d name list l l′ {r} (accepts {tree = v} k) h g =
-      rw e (go (subst (λ (y : Listed). Writes (length list) l y r) (field-list d (length list) (field-agrees name v (at-root k))) h) g)
-    where
-      go : {whole : Listed} {q : ListRead} → Writes (length list) l whole q
-          → l′ ≡ cond (leb (listReadAnswer records bytes q .number) 3) l (replicate (length l) 0)
-          → _≡_ {A = ListOutcome} (record { read = record { answer = listReadAnswer records bytes q; words = W; text = X }; list = l′ })
-          (record { read = record { answer = listAnswer records bytes whole; words = W; text = X }; list = listWords (length list) whole })
-      go (wrote z) g = rw (g, z)
-      go (stopped {x = x} z) g = rw (g, late x, z)
-
--- The four ends of the public calls, by parse's answer.
-module _ (config : Config) (input words text W X : List ℕ) {p : Parsed} (e : outcomeOf p W X ≡ reading config input words text) where
-  module _ {records bytes : ℕ} (h : p ≡ Accepted records bytes) where
-    o-is : reading config input words text ≡ record { number = 0; place = 0; records = records; bytes = bytes; words = W; text = X }
-    o-is = sym (rw h at e)
-
-    reads : Accepts (Read words text (reading config input words text)) (parsed config input (lentBy words text))
-    reads = of-accepted (Read words text) config input words text (λ v n t s. (s, refl)) (ap (λ (y : Outcome). y .number) o-is)
+  -- It accepts.
+  module _ (z : reading .number ≡ 0) where
+    by-way : (P : Read → Outcome → Type 0)
+        → ((v : Node) (u : Used) (s : Sound (lentBy words text) v u) → P (passed v (outcome (length words) (length text) (accepted v u))) (outcome (length words) (length text) (accepted v u)))
+        → P (read config input words text) after-it
+    by-way P f = go (went config input words text) e
+      where
+        go : {r : Read} → Went words text r → after-it ≡ outcomeOf r → P r after-it
+        go {r} (accepting {n = v} {u = u} s) q = subst (λ (y : Outcome). P r y) (sym q) (f v u s)
+        go (refusing x h) q = absurd (code-some x (sym h ∙ sym (ap (λ (y : Outcome). y .answer .number) q) ∙ z))
 
     pub readable-after : Readable W X × (0 < recordCount W)
-    readable-after = can-read words text o-is reads
+    readable-after = by-way (λ r y. Readable (y .words) (y .text) × (0 < recordCount (y .words))) (λ v u s. can-read words text s)
 
     pub few-listed : (d : DuplicateKeyBehavior) (name : List ℕ) (size : ℕ) {l : List ℕ} {r : ListRead}
-        → Writes size l (fieldListAt d W X size (fieldAt W X name)) r → elementCount r ≤ records
-    few-listed d name size g = element-count words text o-is d name size reads g
+        → Writes size l (fieldListAt d W X size (fieldAt W X name)) r → elementCount r ≤ reading .records
+    few-listed d name size {l} {r} =
+        by-way (λ q y. Writes size l (fieldListAt d (y .words) (y .text) size (fieldAt (y .words) (y .text) name)) r → elementCount r ≤ y .answer .records)
+        (λ v u s h. go (few-found words text s d name size) (subst (λ (y : Listed). Writes size l y r) (list-found words text s d name size) h))
+      where
+        go : {n : ℕ} {whole : Listed} {q : ListRead} → FewElements n whole → Writes size l whole q → elementCount q ≤ n
+        go f (wrote h) = f
+        go f (stopped h) = omega arith
 
-    pub text-accepted : (d : DuplicateKeyBehavior) (name : List ℕ) {a : FieldRead} {r : TextRead} → a ≡ textAnswer records bytes r
+    pub text-accepted : (d : DuplicateKeyBehavior) (name : List ℕ) {a : FieldRead} {r : TextRead} → a ≡ textAnswer reading r
         → r ≡ fieldTextAt d W X (fieldAt W X name)
         → _≡_ {A = TextOutcome} (record { answer = a; words = W; text = X }) (textRead config d input name words text)
     unfolding textRead
-    text-accepted d name f g = rw (f, g) (text-read words text o-is d name reads)
+    text-accepted d name f g =
+        rw (f, g)
+        (by-way
+        (λ r y. leaving y (textAnswer (y .answer) (fieldTextAt d (y .words) (y .text) (fieldAt (y .words) (y .text) name)))
+        ≡ after r (textAfter d name) unread)
+        (λ v u s.
+        let o = outcome (length words) (length text) (accepted v u) in
+        ap (λ (y : TextRead). leaving o (textAnswer (o .answer) y)) (text-found words text s d name)))
 
-    pub list-accepted : (d : DuplicateKeyBehavior) (name list l l′ : List ℕ) {a : FieldRead} {r : ListRead} → a ≡ listReadAnswer records bytes r
-        → Writes (length list) l (fieldListAt d W X (length list) (fieldAt W X name)) r → l′ ≡ cond (leb (a .number) 3) l (replicate (length l) 0)
+    pub list-accepted : (d : DuplicateKeyBehavior) (name list l l′ : List ℕ) {a : FieldRead} {r : ListRead} → a ≡ listReadAnswer reading r
+        → Writes (length list) l (fieldListAt d W X (length list) (fieldAt W X name)) r → l′ ≡ leftBy r l
         → _≡_ {A = ListOutcome} (record { read = record { answer = a; words = W; text = X }; list = l′ }) (listRead config d input name words text list)
     unfolding listRead
-    list-accepted d name list l l′ f g k = rw f (list-read words text o-is d name list l l′ reads g (rw f at k))
-
-  module _ {number place : ℕ} (h : p ≡ Refused number place) where
-    r-is : reading config input words text ≡ record { number = number; place = place; records = 0; bytes = 0; words = W; text = X }
-    r-is = sym (rw h at e)
-
-    pub place-bounded : place ≤ maxLen + 1
-    place-bounded = omega (arith, placed config input words text .bounded, ap (λ (y : Outcome). y .place) r-is)
-
-    -- No accepted reading uses no record.
-    refused-some : number ≢ 0
-    refused-some z =
-        go (of-accepted (Read words text) config input words text (λ v n t s. (s, refl)) (ap (λ (y : Outcome). y .number) r-is ∙ z))
+    list-accepted d name list l l′ {r = r} f g k =
+        rw (f, k)
+        (by-way
+        (λ q y. Writes (length list) l (fieldListAt d (y .words) (y .text) (length list) (fieldAt (y .words) (y .text) name)) r
+        → _≡_ {A = ListOutcome} (record { read = leaving y (listReadAnswer (y .answer) r); list = leftBy r l })
+        (after q (listAfter d name (length list)) (unlisted list)))
+        (λ v u s h.
+        go (outcome (length words) (length text) (accepted v u))
+        (subst (λ (y : Listed). Writes (length list) l y r) (list-found words text s d name (length list)) h)) g)
       where
-        go : {a : Answer} → Accepts (Read words text (reading config input words text)) a → ⊥
-        go (accepts k) = omega (arith, k .0 .risen .some, ap (λ (y : Outcome). y .records) (sym r-is ∙ k .1))
+        go : (o : Outcome) {whole : Listed} {q : ListRead} → Writes (length list) l whole q
+            → _≡_ {A = ListOutcome} (record { read = leaving o (listReadAnswer (o .answer) q); list = leftBy q l }) (listOutcome o (length list) whole)
+        go o (wrote h) = rw h
+        go o (stopped h) = rw h
 
-    pub text-refused : (d : DuplicateKeyBehavior) (name : List ℕ) {a : FieldRead}
-        → a ≡ record { number = number; place = place; records = 0; bytes = 0; offset = 0; len = 0 }
+  -- It refuses.
+  module _ (z : reading .number ≢ 0) where
+    by-refusal : (P : Read → Outcome → Type 0) → ((o : Outcome) → P (met o) o) → P (read config input words text) after-it
+    by-refusal P f = go (went config input words text) e
+      where
+        go : {r : Read} → Went words text r → after-it ≡ outcomeOf r → P r after-it
+        go (accepting s) q = absurd (z (ap (λ (y : Outcome). y .answer .number) q))
+        go {r} (refusing {o = o} x h) q = subst (λ (y : Outcome). P r y) (sym q) (f o)
+
+    pub text-refused : (d : DuplicateKeyBehavior) (name : List ℕ) {a : FieldRead} → a ≡ record { reading = reading; offset = 0; len = 0 }
         → _≡_ {A = TextOutcome} (record { answer = a; words = W; text = X }) (textRead config d input name words text)
     unfolding textRead
-    text-refused d name f = rw f (go (reading config input words text) (parsed config input (lentBy words text)) r-is)
-      where
-        go : (o : Outcome) (a : Answer) → o ≡ record { number = number; place = place; records = 0; bytes = 0; words = W; text = X }
-            → _≡_ {A = TextOutcome}
-            (record {
-              answer = record { number = number; place = place; records = 0; bytes = 0; offset = 0; len = 0 };
-              words = W;
-              text = X;
-            })
-            (textAfter o a (λ tree. textOfField d (rootField name tree)))
-        go o (accepted v n t) q = rw (q, ne-eqb number 0 refused-some)
-        go o (refusedAt x i) q = rw q
+    text-refused d name f =
+        rw f
+        (by-refusal
+        (λ r y. unread y ≡ after r (textAfter d name) unread) (λ o. refl))
 
-    pub list-refused : (d : DuplicateKeyBehavior) (name list l : List ℕ) {a : FieldRead}
-        → a ≡ record { number = number; place = place; records = 0; bytes = 0; offset = 0; len = 0 }
-        → l ≡ cond (leb number 3) list (replicate (length list) 0)
+    pub list-refused : (d : DuplicateKeyBehavior) (name list l : List ℕ) {a : FieldRead} → a ≡ record { reading = reading; offset = 0; len = 0 }
+        → l ≡ leftIn (reading .number) list
         → _≡_ {A = ListOutcome} (record { read = record { answer = a; words = W; text = X }; list = l }) (listRead config d input name words text list)
     unfolding listRead
-    list-refused d name list l f g = rw (f, g) (go (reading config input words text) (parsed config input (lentBy words text)) r-is)
-      where
-        go : (o : Outcome) (a : Answer) → o ≡ record { number = number; place = place; records = 0; bytes = 0; words = W; text = X }
-            → _≡_ {A = ListOutcome}
-            (record {
-              read =
-                  record {
-                    answer = record { number = number; place = place; records = 0; bytes = 0; offset = 0; len = 0 };
-                    words = W;
-                    text = X;
-                  };
-              list = cond (leb number 3) list (replicate (length list) 0);
-            })
-            (listAfter o list a (λ tree. listOfField d (length list) (rootField name tree)))
-        go o (accepted v n t) q = rw (q, ne-eqb number 0 refused-some)
-        go o (refusedAt x i) q = rw q
+    list-refused d name list l f g =
+        rw (f, g)
+        (by-refusal
+        (λ r y. unlisted list y
+        ≡ after r (listAfter d name (length list)) (unlisted list)) (λ o. refl))

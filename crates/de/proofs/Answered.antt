@@ -1,47 +1,35 @@
 -- Every text that is answered lies in the used text and is UTF-8.
 use Prim.Native.Nat.{ℕ, zero, suc, _+_, _*_, _-_, _<_, _≤_}
-use mathlib.Core.Path.{_≡_, refl, ap, _∙_}
+use mathlib.Core.Path.{_≡_, sym, _∙_}
 use mathlib.Core.List.{List, [], _∷_, _++_}
 use native.Mathlib.Omega.{arith}
-use lib.Dec.{eqb, ltb}
+use lib.Dec.{ltb}
 use lib.ListN.{length, getD, replicate}
-use borrow.Author.Tests.{eqb-true, eqb-false}
 use Rattle.laws.proofs.Cases.{split}
+use Rattle.row.specs.Words.{textPart}
 use Rattle.utf8.specs.Test.{utf8}
 use Rattle.utf8.specs.Grammar.{Utf8}
 use Rattle.utf8.specs.Grammar as grammar
 use Rattle.utf8.proofs.Decides.{decides}
-use Rattle.reading.specs.Values.{unkeyed, Value, uninitialized, null, noValue, string, map, sequence, Forest, none, child}
-use Rattle.row.specs.Words.{textPart}
+use Rattle.refusals.specs.declared.Refusal.the-variants.{WrongKind}
+use Rattle.refusals.proofs.Codes.{code-some}
+use Rattle.reading.specs.Values.{bare, Value, uninitialized, null, noValue, string, map, sequence, Forest, none, child, Node}
+use Rattle.reading.specs.Charging.{Used}
 use Rattle.reading.specs.Laid.{Laid, LaidAll}
-use Rattle.refusals.specs.declared.Refusal.the-variants.{Refusal as ReadingRefusal}
-use Rattle.reading.specs.Running.{Answer, accepted, refusedAt, Accepts, accepts}
-use Rattle.reading.specs.Reading.{Outcome, lentBy, parsed, reading}
+use Rattle.reading.specs.Running.{accepted}
+use Rattle.reading.specs.Reading.{Outcome, lentBy, outcome, Read, after}
 use Rattle.reading.proofs.Laying.{laid-more, lies-part}
-use Rattle.reading.proofs.Outcomes.{of-accepted}
+use Rattle.reading.proofs.Outcomes.{Sound}
 use Rattle.de.specs.declared.DuplicateKeyBehavior.{DuplicateKeyBehavior}
-use Rattle.refusals.specs.declared.Refusal.{Refusal}
-use Rattle.refusals.specs.declared.Refusal.the-variants.{WrongRoot, NoSuchField, WrongKind, SeveralValues, MissingIndex}
-use Rattle.refusals.specs.declared.Refusal.the-variants.{NotUtf8, ShortSlice}
 use Rattle.de.specs.declared.text.TextRead.{TextRead}
 use Rattle.de.specs.declared.text.TextRead.the-variants.{Text, Refused}
-use Rattle.refusals.specs.Codes.{code}
 use Rattle.de.specs.Fields.{Field, found, isNamed, named, rootField}
 use Rattle.de.specs.Texts.{singleText, lastText, several, textOf}
 use Rattle.de.specs.Lists.{Listed, listed, prepend, isNext, elementText, inTurn, childCount, elements, intKeys, listOf}
-use Rattle.de.specs.Reads.{TextOutcome, textAnswer, textOfField, textAfter, textRead, listAnswer, listOutcome, listOfField, listAfter, listRead}
+use Rattle.de.specs.Reads.{leaving, unread, textAnswer, textOfField, textAfter, textRead, listAnswer, listOutcome, listOfField, listAfter, unlisted, listRead}
 use Rattle.de.specs.Answered.{ValidText, TextAnswered, ValidElements, ListAnswered}
 use Rattle.de.proofs.Stored.{lies-le}
-use Rattle.de.proofs.AfterReading.{Read}
-
-code-some : (x : Refusal) → code x ≡ 0 → ⊥
-code-some WrongRoot e = omega arith
-code-some NoSuchField e = omega arith
-code-some WrongKind e = omega arith
-code-some SeveralValues e = omega arith
-code-some MissingIndex e = omega arith
-code-some NotUtf8 e = omega arith
-code-some ShortSlice e = omega arith
+use Rattle.de.proofs.Went.{Went, accepting, refusing, went}
 
 -- Of a text that is used, with anything behind it.
 module _ (t zs : List ℕ) where
@@ -82,7 +70,7 @@ module _ (t zs : List ℕ) where
 
   named-laid : (name : List ℕ) (cs : Forest) → LaidAll t cs → LaidField (named name cs)
   named-laid name none h = tt
-  named-laid name (child m l v cs) h = split (isNamed name l) (λ e. rw e (h .1)) (λ e. rw e (named-laid name cs (h .2)))
+  named-laid name (child m l v cs) h = split (isNamed name (l .label)) (λ e. rw e (h .1)) (λ e. rw e (named-laid name cs (h .2)))
 
   field-laid : (name : List ℕ) (v : Value) → Laid t v → LaidField (rootField name v)
   field-laid name uninitialized h = tt
@@ -114,7 +102,7 @@ module _ (t zs : List ℕ) where
   turn-valid : (d : DuplicateKeyBehavior) (i : ℕ) (cs : Forest) → LaidAll t cs → ValidListed (inTurn d i cs)
   turn-valid d i none h = no-pair
   turn-valid d i (child m l v cs) h =
-      prepend-valid (elementText d i l v) (inTurn d (suc i) cs) (split (isNext i l) (λ e. rw e (text-valid d v (h .1))) (λ e. rw e tt))
+      prepend-valid (elementText d i (l .label) v) (inTurn d (suc i) cs) (split (isNext i (l .label)) (λ e. rw e (text-valid d v (h .1))) (λ e. rw e tt))
       (turn-valid d (suc i) cs (h .2))
 
   elements-valid : (d : DuplicateKeyBehavior) (size : ℕ) (cs : Forest) → LaidAll t cs → ValidListed (elements d size cs)
@@ -124,7 +112,7 @@ module _ (t zs : List ℕ) where
   list-valid d size uninitialized h = tt
   list-valid d size null h = no-pair
   list-valid d size noValue h = no-pair
-  list-valid d size (string o x) h = elements-valid d size (child 0 unkeyed (string o x) none) (tt, h, tt)
+  list-valid d size (string o x) h = elements-valid d size (child 0 bare (string o x) none) (tt, h, tt)
   list-valid d size (map cs) h = split (intKeys cs) (λ e. rw e (elements-valid d size cs h)) (λ e. rw e tt)
   list-valid d size (sequence cs) h = elements-valid d size cs h
 
@@ -141,73 +129,47 @@ module _ (t zs : List ℕ) where
       let f : 2 * suc i + 1 ≡ suc (suc (2 * i + 1)) = omega arith in
       rw (f, e) (pair-at rest i p (omega arith))
 
--- An accepted answer of a reading is no refusal.
-no-refusal : {P : Value → ℕ → List ℕ → Type 0} {a : Answer} {x : ReadingRefusal} {p : ℕ} → Accepts P a → a ≡ refusedAt x p → ⊥
-no-refusal (accepts k) e = let z : _≡_ {A = ℕ} 0 1 = cc in omega arith
+-- The answers after an accepted reading.
+module _ (words text : List ℕ) {v : Node} {u : Used} (s : Sound (lentBy words text) v u) where
+  abbrev o : Outcome
+  o = outcome (length words) (length text) (accepted v u)
 
-accepted-is : {P : Value → ℕ → List ℕ → Type 0} {v : Value} {n : ℕ} {t : List ℕ} → Accepts P (accepted v n t) → P v n t
-accepted-is (accepts k) = k
+  abbrev spare : List ℕ
+  spare = replicate (length text - length (u .text)) 0
 
--- The answers to an accepted reading.
-module _ (words text : List ℕ) where
-  unused : List ℕ → List ℕ
-  unused t = replicate (length text - length t) 0
+  answered-text : (r : TextRead) → ValidRead (u .text) spare r → (textAnswer (o .answer) r) .reading .number ≡ 0
+      → ValidText (leaving o (textAnswer (o .answer) r)) ((textAnswer (o .answer) r) .offset) ((textAnswer (o .answer) r) .len)
+  answered-text (Text a b) h e = record { inside = h .0; valid = h .1 }
+  answered-text (Refused x) h e = absurd (code-some x e)
 
-  module _ (o : Outcome) {v : Value} {n : ℕ} {t : List ℕ} (read : Read words text o v n t) where
-    valid-text : (a b : ℕ) (w : TextOutcome) → w .answer .bytes ≡ o .bytes → w .text ≡ o .text → Valid t (unused t) a b → ValidText w a b
-    unfolding unused
-    valid-text a b w e f h =
-        record {
-          inside = omega (arith, e, ap (λ (y : Outcome). y .bytes) (read .1), h .0);
-          valid = rw (f ∙ ap (λ (y : Outcome). y .text) (read .1)) (h .1);
-        }
-
-    answered-text : (r : TextRead) → ValidRead t (unused t) r → (textAnswer (o .records) (o .bytes) r) .number ≡ 0
-        → ValidText (record { answer = textAnswer (o .records) (o .bytes) r; words = o .words; text = o .text })
-        ((textAnswer (o .records) (o .bytes) r) .offset) ((textAnswer (o .records) (o .bytes) r) .len)
-    answered-text (Text a b) h e = valid-text a b _ refl refl h
-    answered-text (Refused x) h e = absurd (code-some x e)
-
-    answered-list : (size : ℕ) (r : Listed) → ValidListed t (unused t) r → (listAnswer (o .records) (o .bytes) r) .number ≡ 0
-        → ValidElements (listOutcome o size r)
-    answered-list size (listed k written) h e =
-        λ i l. valid-text _ _ _ refl refl (pair-at t (unused t) (replicate (size - length written) 0) i h l)
-    answered-list size (Listed.refused x) h e = absurd (code-some x e)
-
-  -- After any reading.
-  module _ (o : Outcome) where
-    text-after : (read : Value → TextRead) (a : Answer) → (o .number ≡ 0 → Accepts (Read words text o) a)
-        → ((t zs : List ℕ) (v : Value) → Laid t v → ValidRead t zs (read v)) → (textAfter o a read) .answer .number ≡ 0
-        → ValidText (textAfter o a read) ((textAfter o a read) .answer .offset) ((textAfter o a read) .answer .len)
-    text-after read (refusedAt x p) acc h e = absurd (no-refusal (acc e) refl)
-    text-after read (accepted v n t) acc h e =
-        split (eqb (o .number) 0)
-        (λ b.
-        let k = accepted-is (acc (eqb-true (o .number) 0 b)) in
-        rw b (answered-text o k (read v) (h t (unused t) v (k .0 .held .texts)) (rw b at e)))
-        (λ b. absurd (eqb-false (o .number) 0 b (rw b at e)))
-
-    list-after : (list : List ℕ) (read : Value → Listed) (a : Answer) → (o .number ≡ 0 → Accepts (Read words text o) a)
-        → ((t zs : List ℕ) (v : Value) → Laid t v → ValidListed t zs (read v)) → (listAfter o list a read) .read .answer .number ≡ 0
-        → ValidElements (listAfter o list a read)
-    list-after list read (refusedAt x p) acc h e = absurd (no-refusal (acc e) refl)
-    list-after list read (accepted v n t) acc h e =
-        split (eqb (o .number) 0)
-        (λ b.
-        let k = accepted-is (acc (eqb-true (o .number) 0 b)) in
-        rw b (answered-list o k (length list) (read v) (h t (unused t) v (k .0 .held .texts)) (rw b at e)))
-        (λ b. absurd (eqb-false (o .number) 0 b (rw b at e)))
+  answered-list : (size : ℕ) (r : Listed) → ValidListed (u .text) spare r → (listAnswer (o .answer) r) .reading .number ≡ 0
+      → ValidElements (listOutcome o size r)
+  answered-list size (listed k written) h e i l =
+      let p = pair-at (u .text) spare (replicate (size - length written) 0) i h l in
+      record { inside = p .0; valid = p .1 }
+  answered-list size (Listed.refused x) h e i l = absurd (code-some x e)
 
 pub text-answered : TextAnswered
 unfolding textRead
-text-answered config d input name words text e =
-    text-after words text (reading config input words text) (λ tree. textOfField d (rootField name tree)) (parsed config input (lentBy words text))
-    (of-accepted (Read words text) config input words text (λ v n t s. (s, refl)))
-    (λ t zs v h. field-text-valid t zs d (rootField name v) (field-laid t zs name v h)) e
+text-answered config d input name words text = go (went config input words text)
+  where
+    go : {r : Read} → Went words text r → (after r (textAfter d name) unread) .answer .reading .number ≡ 0
+        → ValidText (after r (textAfter d name) unread) ((after r (textAfter d name) unread) .answer .offset)
+        ((after r (textAfter d name) unread) .answer .len)
+    go (accepting {n = v} {u = u} s) e =
+        let zs : List ℕ = replicate (length text - length (u .text)) 0 in
+        answered-text words text s (textOfField d (rootField name (v .value)))
+        (field-text-valid (u .text) zs d (rootField name (v .value)) (field-laid (u .text) zs name (v .value) (s .held .texts))) e
+    go (refusing x h) e = absurd (code-some x (sym h ∙ e))
 
 pub list-answered : ListAnswered
 unfolding listRead
-list-answered config d input name words text list e =
-    list-after words text (reading config input words text) list (λ tree. listOfField d (length list) (rootField name tree))
-    (parsed config input (lentBy words text)) (of-accepted (Read words text) config input words text (λ v n t s. (s, refl)))
-    (λ t zs v h. field-list-valid t zs d (length list) (rootField name v) (field-laid t zs name v h)) e
+list-answered config d input name words text list = go (went config input words text)
+  where
+    go : {r : Read} → Went words text r → (after r (listAfter d name (length list)) (unlisted list)) .read .answer .reading .number ≡ 0
+        → ValidElements (after r (listAfter d name (length list)) (unlisted list))
+    go (accepting {n = v} {u = u} s) e =
+        let zs : List ℕ = replicate (length text - length (u .text)) 0 in
+        answered-list words text s (length list) (listOfField d (length list) (rootField name (v .value)))
+        (field-list-valid (u .text) zs d (length list) (rootField name (v .value)) (field-laid (u .text) zs name (v .value) (s .held .texts))) e
+    go (refusing x h) e = absurd (code-some x (sym h ∙ e))

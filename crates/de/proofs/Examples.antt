@@ -4,15 +4,15 @@ use Rattle.decode.specs.Hex.{digitOf}
 use Rattle.decode.specs.Decoding.{decoded}
 use Rattle.ascii.specs.Digits.{allDigits, valueFrom}
 use Rattle.utf8.specs.Test.{second, first, next, run}
-use Rattle.reading.specs.Reading.{reading}
+use Rattle.reading.specs.Reading.{read}
 use Rattle.de.specs.Fields.{sameBytes}
 use Rattle.de.specs.Reads.{textRead, listRead}
 use Rattle.de.specs.Examples.{TextTestsPass, ListTestsPass}
 
 pub text-tests-pass : TextTestsPass
-unfolding textRead reading decoded digitOf allDigits valueFrom sameBytes second first next run
+unfolding textRead read decoded digitOf allDigits valueFrom sameBytes second first next run
 text-tests-pass = refl
 
 pub list-tests-pass : ListTestsPass
-unfolding listRead reading decoded digitOf allDigits valueFrom sameBytes second first next run
+unfolding listRead read decoded digitOf allDigits valueFrom sameBytes second first next run
 list-tests-pass = refl

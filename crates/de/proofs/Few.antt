@@ -1,12 +1,12 @@
 -- A list has at most as many elements as the tree has records.
-use Prim.Native.Nat.{ℕ, suc, _*_, _<_, _≤_}
+use Prim.Native.Nat.{ℕ, suc, _+_, _*_, _<_, _≤_}
 use mathlib.Core.List.{List, [], _∷_}
 use native.Mathlib.Omega.{arith}
 use lib.Dec.{ltb}
 use Rattle.laws.proofs.Cases.{split}
-use Rattle.reading.specs.Values.{unkeyed, Value, uninitialized, null, noValue, string, map, sequence, Forest, none, child}
+use Rattle.reading.specs.Values.{bare, Value, uninitialized, null, noValue, string, map, sequence, Forest, none, child}
 use Rattle.records.specs.Nodes.{size}
-use Rattle.tree.specs.Nodes.{nodes, rooted}
+use Rattle.tree.specs.Nodes.{below, nodes}
 use Rattle.de.specs.declared.DuplicateKeyBehavior.{DuplicateKeyBehavior}
 use Rattle.de.specs.declared.text.TextRead.{TextRead}
 use Rattle.de.specs.declared.text.TextRead.the-variants.{Text, Refused}
@@ -17,7 +17,7 @@ use Rattle.de.specs.Reads.{listOfField}
 -- The records of a field, and the elements of a list, are at most n.
 module _ (n : ℕ) where
   abbrev FewRecords : Field → Type 0
-  FewRecords (found v) = size (rooted v) ≤ n
+  FewRecords (found v) = size (below v) + 1 ≤ n
   FewRecords (Field.refused x) = Unit {0}
 
   abbrev pub FewElements : Listed → Type 0
@@ -26,9 +26,9 @@ module _ (n : ℕ) where
 
 few-named : {n : ℕ} (name : List ℕ) (cs : Forest) → size (nodes cs) ≤ n → FewRecords n (named name cs)
 few-named name none h = tt
-few-named name (child m l v cs) h = split (isNamed name l) (λ e. rw e (omega arith)) (λ e. rw e (few-named name cs (omega arith)))
+few-named name (child m l v cs) h = split (isNamed name (l .label)) (λ e. rw e (omega arith)) (λ e. rw e (few-named name cs (omega arith)))
 
-few-in-field : {n : ℕ} (name : List ℕ) (v : Value) → size (rooted v) ≤ n → FewRecords n (rootField name v)
+few-in-field : {n : ℕ} (name : List ℕ) (v : Value) → size (below v) + 1 ≤ n → FewRecords n (rootField name v)
 few-in-field name uninitialized h = tt
 few-in-field name null h = tt
 few-in-field name noValue h = tt
@@ -46,21 +46,21 @@ module _ (d : DuplicateKeyBehavior) where
   few-in-turn : {n : ℕ} (i : ℕ) (cs : Forest) → size (nodes cs) ≤ n → FewElements n (inTurn d i cs)
   few-in-turn i none h = omega arith
   few-in-turn i (child m l v cs) h =
-      few-more (elementText d i l v) (inTurn d (suc i) cs) (omega arith) (few-in-turn {n = size (nodes cs)} (suc i) cs (omega arith))
+      few-more (elementText d i (l .label) v) (inTurn d (suc i) cs) (omega arith) (few-in-turn {n = size (nodes cs)} (suc i) cs (omega arith))
 
   module _ {n : ℕ} (room : ℕ) where
     few-elements : (cs : Forest) → size (nodes cs) ≤ n → FewElements n (elements d room cs)
     few-elements cs h = split (ltb room (2 * childCount cs)) (λ e. rw e tt) (λ e. rw e (few-in-turn 0 cs h))
 
-    few-in-list : (v : Value) → size (rooted v) ≤ n → FewElements n (listOf d room v)
+    few-in-list : (v : Value) → size (below v) + 1 ≤ n → FewElements n (listOf d room v)
     few-in-list uninitialized h = tt
     few-in-list null h = omega arith
     few-in-list noValue h = omega arith
-    few-in-list (string o x) h = few-elements (child 0 unkeyed (string o x) none) h
+    few-in-list (string o x) h = few-elements (child 0 bare (string o x) none) (omega arith)
     few-in-list (map cs) h = split (intKeys cs) (λ e. rw e (few-elements cs (omega arith))) (λ e. rw e tt)
     few-in-list (sequence cs) h = few-elements cs (omega arith)
 
-    pub few : (name : List ℕ) (v : Value) → size (rooted v) ≤ n → FewElements n (listOfField d room (rootField name v))
+    pub few : (name : List ℕ) (v : Value) → size (below v) + 1 ≤ n → FewElements n (listOfField d room (rootField name v))
     few name v h = go (rootField name v) (few-in-field name v h)
       where
         go : (f : Field) → FewRecords n f → FewElements n (listOfField d room f)

@@ -6,6 +6,7 @@ pub mod Lists
 pub mod Stored
 pub mod Agree
 pub mod Few
+pub mod Went
 pub mod AfterReading
 pub mod Answered
 pub mod Examples

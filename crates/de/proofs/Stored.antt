@@ -6,29 +6,32 @@ use native.Mathlib.Omega.{arith}
 use native.Mathlib.Decide.{ℕ-discrete, decLt}
 use borrow.Author.Tests.{ltb-true, ltb-false}
 use lib.Dec.{ltb}
-use lib.ListN.{length, getD, replicate, length-append, length-replicate}
+use lib.ListN.{length, getD, replicate, length-append}
 use lib.Seq.{getD-append-add}
 use Rattle.row.specs.Row.{recordWidth}
 use Rattle.laws.proofs.Cases.{split, below as by-order}
 use Rattle.laws.proofs.Lists.{zeros}
-use Rattle.reading.specs.Values.{Label, unkeyed, intKey, stringKey, Value, uninitialized, null, noValue, string, map, sequence, Forest, none, child}
-use Rattle.reading.specs.Records.{layout, textOffset, textLength}
+use Rattle.reading.specs.Values.{Label, unkeyed, intKey, stringKey, Row, Value, uninitialized, null, noValue, string, map, sequence, Forest, none, child, Node}
+use Rattle.reading.specs.Charging.{Used}
+use Rattle.reading.specs.Running.{accepted}
+use Rattle.reading.specs.Records.{rooted as forestOf, layout, textOffset, textLength}
 use Rattle.reading.specs.Trees.{plain, entries, elements}
 use Rattle.reading.specs.Counts.{values, entryValues, elementValues}
 use Rattle.reading.specs.Laid.{Lies, LaidLabel, Laid, LaidAll}
 use Rattle.reading.specs.Shape.{Rising as RisingValue, RisingAll}
-use Rattle.reading.specs.Reading.{lentBy}
-use Rattle.reading.proofs.Adds.{tally, count as countValue, countAll}
+use Rattle.reading.specs.Reading.{lentBy, outcome}
+use Rattle.reading.specs.Numbers.{tally, count as countValue, countAll}
 use Rattle.reading.proofs.Laying.{laid-more}
-use Rattle.reading.proofs.Layouts.{Row as LaidRow, Rows, RowsAll, records-length, root-row, layout-rows}
-use Rattle.reading.proofs.Outcomes.{Sound}
+use Rattle.reading.proofs.Layouts.{Recorded, Rows, RowsAll, records-length, root-row, layout-rows}
+use Rattle.reading.proofs.Outcomes.{Sound, accepted-answered}
 use Rattle.records.specs.declared.store.Record.{Record}
 use Rattle.row.specs.Row.{textWord, textLengthWord}
 use Rattle.row.specs.Words.{recordCount, word}
 use Rattle.records.specs.Records.{keyWordsAt, valueAt, recordAt}
 use Rattle.records.specs.Keys.{InText}
 use Rattle.records.specs.Nodes.{Nodes, nil, node, first as firstNode, size, indicator, count}
-use Rattle.records.specs.Holds.{Row, Represents, Above, Rising}
+use Rattle.records.specs.Holds.{Represents, Above, Rising}
+use Rattle.records.specs.Holds as holds
 use Rattle.records.proofs.Forests.{indicator-other}
 use Rattle.records.proofs.Held.{well-formed}
 use Rattle.tree.specs.Nodes.{labelWords, recordOf, below, nodes, rooted}
@@ -38,13 +41,13 @@ use Rattle.de.specs.OnRecords.{Readable}
 
 -- Each value's record.
 module _ (w : List ℕ) where
-  row-of : {m : ℕ} {l : Label} {v : Value} {cs : Forest} → LaidRow w m l v cs → Row w m (recordOf l v) (firstNode (below v)) (firstNode (nodes cs))
+  row-of : {m : ℕ} {l : Row} {v : Value} {cs : Forest} → Recorded w m l v cs → holds.Row w m (recordOf l v) (firstNode (below v)) (firstNode (nodes cs))
   unfolding word keyWordsAt valueAt
   row-of {m} {l} {v} {cs} r =
       record {
-        fixed = rw (r .w0, r .w1, r .w2, r .w3, r .w4, r .w5);
-        child-is = r .w6 ∙ sym (first-below v);
-        next-is = r .w7 ∙ sym (first-node cs);
+        fixed = rw (r .kind-is, r .key-kind, r .key-is, r .key-length, r .text-is, r .text-length);
+        child-is = r .child-is ∙ sym (first-below v);
+        next-is = r .next-is ∙ sym (first-node cs);
       }
 
   mutual
@@ -163,7 +166,7 @@ mutual
   inside-nodes : (text : List ℕ) (cs : Forest) → LaidAll text cs → Inside text (nodes cs)
   inside-nodes text none h = tt
   inside-nodes text (child m l v cs) h =
-      ((label-inside text l (h .0), value-inside text v (h .1)), inside-below text v (h .1), inside-nodes text cs (h .2))
+      ((label-inside text (l .label) (h .0), value-inside text v (h .1)), inside-below text v (h .1), inside-nodes text cs (h .2))
 
 inside-at : (ws text : List ℕ) (f : Nodes) → Represents ws f → Inside text f → (m : ℕ) → 0 < count m f → InsideText text (recordAt ws m)
 inside-at ws text nil k i m c = absurd (omega arith)
@@ -176,69 +179,75 @@ inside-at ws text (node n r d s) k i m c =
     go (no e) (yes q) f g = f q
     go (no e) (no q) f g = g (omega (arith, indicator-other m n e))
 
-module _ (words text : List ℕ) (v : Value) (n : ℕ) (t : List ℕ) (s : Sound (lentBy words text) v n t) where
+module _ (words text : List ℕ) (v : Node) (u : Used) (s : Sound (lentBy words text) v u) where
   abbrev pub left : List ℕ
-  left = layout n v ++ replicate (length words - n * recordWidth) 0
+  left = (outcome (length words) (length text) (accepted v u)) .words
 
   abbrev pub filled : List ℕ
-  filled = t ++ replicate (length text - length t) 0
+  filled = (outcome (length words) (length text) (accepted v u)) .text
+
+  abbrev n : ℕ
+  n = u .records
+
+  abbrev spare : List ℕ
+  spare = replicate (length words - n * recordWidth) 0
 
   len : length (layout n v) ≡ n * recordWidth
-  len = records-length n 0 (child 0 unkeyed v none)
+  len = records-length n 0 (forestOf v)
 
   left-long : length left ≡ length words
-  left-long =
-      length-append (layout n v) (replicate (length words - n * recordWidth) 0)
-      ∙ omega (arith, len, length-replicate {A = ℕ} (length words - n * recordWidth) 0, s .within .records)
+  left-long = accepted-answered words text v u s .lengths .0
 
   filled-long : length filled ≡ length text
-  filled-long =
-      length-append t (replicate (length text - length t) 0) ∙ omega (arith, length-replicate {A = ℕ} (length text - length t) 0, s .within .bytes)
+  filled-long = accepted-answered words text v u s .lengths .1
 
   held-words : Represents left (rooted v)
   held-words = (
-    row-of left (root-row v n t (replicate (length words - n * recordWidth) 0) (s .held)),
-    represents-below left v (layout-rows v n t (replicate (length words - n * recordWidth) 0) (s .held)),
+    row-of left (root-row v u spare (s .held)),
+    represents-below left (v .value) (layout-rows v u spare (s .held)),
     tt,
   )
 
   numbered : (m : ℕ) → count m (rooted v) ≡ tally (ltb m n)
   unfolding indicator
-  numbered m = omega (arith, s .held .numbers m, count-below m v)
+  numbered m = omega (arith, s .held .numbers m, count-below m (v .value))
 
   in-text : (m : ℕ) → m < n → InsideText filled (recordAt left m)
   in-text m l =
       inside-at left filled (rooted v) held-words
-      (((λ i. omega arith), value-inside filled v laid), inside-below filled v laid, tt) m
+      ((root-inside (v .row .label) (s .bare), value-inside filled (v .value) laid), inside-below filled (v .value) laid, tt) m
       (rw (numbered m) (split (ltb m n) (λ e. rw e (omega arith)) (λ e. absurd (omega (arith, ltb-false m n e)))))
     where
-      laid : Laid filled v
-      laid = laid-more t (replicate (length text - length t) 0) v (s .held .texts)
+      laid : Laid filled (v .value)
+      laid = laid-more (u .text) (replicate (length text - length (u .text)) 0) (v .value) (s .held .texts)
+
+      root-inside : (x : Label) → x ≡ unkeyed → InText filled (labelWords x)
+      root-inside x e = rw e (label-inside filled unkeyed tt)
 
   rest-zero : (m w : ℕ) → n ≤ m → w < recordWidth → word left m w ≡ 0
   unfolding word
   rest-zero m w h l =
       let e : m * recordWidth + w ≡ length (layout n v) + (m * recordWidth + w - n * recordWidth) = omega (arith, len) in
       ap (λ (i : ℕ). getD left i 0) e
-      ∙ getD-append-add (layout n v) (replicate (length words - n * recordWidth) 0) (m * recordWidth + w - n * recordWidth) 0
+      ∙ getD-append-add (layout n v) spare (m * recordWidth + w - n * recordWidth) 0
       ∙ zeros (length words - n * recordWidth) (m * recordWidth + w - n * recordWidth)
 
-  pub stores : Stores left filled n (length t) v t
+  pub stores : Stores left filled n (length (u .text)) v (u .text)
   stores =
       record {
         holds = record {
           represents = held-words;
           once = λ m l. numbered m ∙ split (ltb m n) (λ e. rw e) (λ e. absurd (omega (arith, ltb-false m n e)));
           no-other = λ m l. numbered m ∙ split (ltb m n) (λ e. absurd (omega (arith, ltb-true m n e))) (λ e. rw e);
-          sized = omega (arith, size-below v, s .held .sizes);
-          rising = (above-below 0 n v (s .risen .rising), rising-below 0 n v (s .risen .rising), tt);
+          sized = omega (arith, size-below (v .value), s .held .sizes);
+          rising = (above-below 0 n (v .value) (s .risen .rising), rising-below 0 n (v .value) (s .risen .rising), tt);
           unused = rest-zero;
           room = omega (arith, left-long, s .within .records);
           keys = λ m l. in-text m l .0;
         };
         texts = s .held .texts;
         shaped = s .shaped;
-        full = let e : length filled - length t ≡ length text - length t = omega (arith, filled-long) in rw e;
+        full = let e : length filled - length (u .text) ≡ length text - length (u .text) = omega (arith, filled-long) in rw e;
         fill = refl;
       }
 

@@ -12,14 +12,15 @@ use Rattle.de.specs.Reads.{TextOutcome, textRead, ListOutcome, listRead}
 
 -- The text at an offset, of a length.
 pub record ValidText (o : TextOutcome) (offset len : ℕ) : Type 0 where
-  pub inside : offset + len ≤ o .answer .bytes
+  pub inside : offset + len ≤ o .answer .reading .bytes
   pub valid : Utf8 (textPart (o .text) offset len)
 
 abbrev pub TextAnswered : Type 0
 TextAnswered =
     (config : Config) (duplicates : DuplicateKeyBehavior) (input name words text : List ℕ)
-    → (textRead config duplicates input name words text) .answer .number ≡ 0
-    → ValidText (textRead config duplicates input name words text) ((textRead config duplicates input name words text) .answer .offset)
+    → (textRead config duplicates input name words text) .answer .reading .number ≡ 0
+    → ValidText (textRead config duplicates input name words text)
+    ((textRead config duplicates input name words text) .answer .offset)
     ((textRead config duplicates input name words text) .answer .len)
 
 -- Of a list, the text of each element.
@@ -30,5 +31,5 @@ ValidElements o =
 abbrev pub ListAnswered : Type 0
 ListAnswered =
     (config : Config) (duplicates : DuplicateKeyBehavior) (input name words text list : List ℕ)
-    → (listRead config duplicates input name words text list) .read .answer .number ≡ 0
+    → (listRead config duplicates input name words text list) .read .answer .reading .number ≡ 0
     → ValidElements (listRead config duplicates input name words text list)

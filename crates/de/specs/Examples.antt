@@ -7,7 +7,7 @@ use mathlib.Core.List.{List, [], _∷_, map}
 use Rattle.config.specs.declared.Config.{Config}
 use Rattle.config.specs.Defaults.{defaults}
 use Rattle.ascii.specs.Texts.{ascii}
-use Rattle.reading.specs.Tests.{atDepth, before}
+use Rattle.reading.specs.Tests.{atDepth, records as wordsOf, before}
 use Rattle.de.specs.declared.DuplicateKeyBehavior.{DuplicateKeyBehavior}
 use Rattle.de.specs.declared.DuplicateKeyBehavior.the-variants.{TakeLast, Error}
 use Rattle.de.specs.declared.FieldRead.{FieldRead}
@@ -16,7 +16,11 @@ use Rattle.de.specs.Reads.{textRead, listRead}
 -- Number, place, records, bytes, offset and length.
 abbrev pub answer : ℕ → ℕ → ℕ → ℕ → ℕ → ℕ → FieldRead
 answer number place records bytes offset len =
-    record { number = number; place = place; records = records; bytes = bytes; offset = offset; len = len }
+    record {
+      reading = record { number = number; place = place; records = records; bytes = bytes };
+      offset = offset;
+      len = len;
+    }
 
 pub record TextTest : Type 0 where
   pub duplicates : DuplicateKeyBehavior
@@ -62,7 +66,7 @@ textTests =
 
 abbrev pub TextTestsPass : Type 0
 TextTestsPass =
-    map (λ t. (textRead defaults (t .duplicates) (ascii (t .input)) (ascii (t .name)) (before 48) (before 12)) .answer) textTests
+    map (λ t. (textRead defaults (t .duplicates) (ascii (t .input)) (ascii (t .name)) (before (wordsOf 6)) (before 12)) .answer) textTests
     ≡ map (λ t. t .expects) textTests
 
 -- With the list's slice, of so many words.
@@ -108,6 +112,6 @@ abbrev pub ListTestsPass : Type 0
 ListTestsPass =
     map
     (λ t.
-    let o = listRead (t .config) (t .duplicates) (ascii (t .input)) (ascii (t .name)) (before 48) (before 12) (before (t .size)) in
+    let o = listRead (t .config) (t .duplicates) (ascii (t .input)) (ascii (t .name)) (before (wordsOf 6)) (before 12) (before (t .size)) in
     (o .read .answer, o .list)) listTests
     ≡ map (λ t. t .expects) listTests

@@ -27,7 +27,7 @@ isNamed name (stringKey o x) = sameBytes x name
 -- The value of the first child of that name.
 abbrev pub named : List ℕ → Forest → Field
 named name none = refused NoSuchField
-named name (child number label value later) = cond (isNamed name label) (found value) (named name later)
+named name (child number row value later) = cond (isNamed name (row .label)) (found value) (named name later)
 
 -- "A NoValue or Null root has no fields; a String root has the empty name only"; 16 is "root Sequence or Uninitialized", 17 "no such field".
 abbrev pub rootField : List ℕ → Value → Field

@@ -3,7 +3,8 @@ use Prim.Native.Nat.{ℕ, suc, _*_}
 use mathlib.Core.Bool.{Bool, true, false, cond}
 use mathlib.Core.List.{List, [], _∷_}
 use lib.Dec.{eqb, ltb}
-use Rattle.reading.specs.Values.{Label, unkeyed, intKey, stringKey, Value, uninitialized, null, noValue, string, map, sequence, Forest, none, child}
+use Rattle.reading.specs.Values.{Label, unkeyed, intKey, stringKey, bare, Value, uninitialized, null, noValue, string}
+use Rattle.reading.specs.Values.{map, sequence, Forest, none, child}
 use Rattle.de.specs.declared.DuplicateKeyBehavior.{DuplicateKeyBehavior}
 use Rattle.refusals.specs.declared.Refusal.{Refusal}
 use Rattle.refusals.specs.declared.Refusal.the-variants.{WrongKind, MissingIndex, ShortSlice}
@@ -35,24 +36,27 @@ elementText duplicates i label value = cond (isNext i label) (textOf duplicates 
 -- "Elements are read in turn as text", from index i on.
 abbrev pub inTurn : DuplicateKeyBehavior → ℕ → Forest → Listed
 inTurn duplicates i none = listed 0 []
-inTurn duplicates i (child number label value later) =
-    prepend (elementText duplicates i label value) (inTurn duplicates (suc i) later)
+inTurn duplicates i (child number row value later) =
+    prepend (elementText duplicates i (row .label) value) (inTurn duplicates (suc i) later)
 
 -- How many elements there are.
 abbrev pub childCount : Forest → ℕ
 childCount none = 0
-childCount (child number label value later) = suc (childCount later)
+childCount (child number row value later) = suc (childCount later)
 
 -- "22 slice below two words an element; then at each element's turn"
 abbrev pub elements : DuplicateKeyBehavior → ℕ → Forest → Listed
 elements duplicates size children = cond (ltb size (2 * childCount children)) (refused ShortSlice) (inTurn duplicates 0 children)
 
+abbrev pub isIntKey : Label → Bool
+isIntKey unkeyed = false
+isIntKey (intKey a) = true
+isIntKey (stringKey o x) = false
+
 -- "Map of Int keys only"
 abbrev pub intKeys : Forest → Bool
 intKeys none = true
-intKeys (child number unkeyed value later) = false
-intKeys (child number (intKey a) value later) = intKeys later
-intKeys (child number (stringKey o x) value later) = false
+intKeys (child number row value later) = cond (isIntKey (row .label)) (intKeys later) false
 
 -- "Null or NoValue, none; String, one; Sequence, all; Map of Int keys only", into a slice of so many words. (The record number and the key of
 -- the one element that a String is are not looked at.)
@@ -60,6 +64,6 @@ abbrev pub listOf : DuplicateKeyBehavior → ℕ → Value → Listed
 listOf duplicates size uninitialized = refused WrongKind
 listOf duplicates size null = listed 0 []
 listOf duplicates size noValue = listed 0 []
-listOf duplicates size (string o x) = elements duplicates size (child 0 unkeyed (string o x) none)
+listOf duplicates size (string o x) = elements duplicates size (child 0 bare (string o x) none)
 listOf duplicates size (map children) = cond (intKeys children) (elements duplicates size children) (refused WrongKind)
 listOf duplicates size (sequence children) = elements duplicates size children

@@ -12,6 +12,7 @@ use Rattle.row.specs.Row.{kindWord, keyKindWord, keyWord, keyLengthWord, textWo
 use Rattle.row.specs.Row.{nextWord, uninitializedKind, mapKind, sequenceKind, stringKind, nullKind, noValueKind}
 use Rattle.row.specs.Row.{noKeyKind, intKeyKind, stringKeyKind}
 use Rattle.row.specs.Words.{recordCount, word}
+use Rattle.reading.specs.declared.Reading.{Reading}
 use Rattle.records.specs.Siblings.{children, lastOf, WellFormed}
 use Rattle.de.specs.declared.DuplicateKeyBehavior.{DuplicateKeyBehavior}
 use Rattle.de.specs.declared.DuplicateKeyBehavior.the-variants.{TakeLast, Error}
@@ -142,13 +143,17 @@ elementCount (Elements count) = count
 elementCount (RefusedList x) = 0
 
 -- The result for the code's answer.
-abbrev pub listReadAnswer : ℕ → ℕ → ListRead → FieldRead
-listReadAnswer records bytes (Elements count) =
-    record { number = 0; place = 0; records = records; bytes = bytes; offset = 0; len = count }
-listReadAnswer records bytes (RefusedList x) = refusedAnswer records bytes x
+abbrev pub listReadAnswer : Reading → ListRead → FieldRead
+listReadAnswer reading (Elements count) = record { reading = reading; offset = 0; len = count }
+listReadAnswer reading (RefusedList x) = refusedAnswer reading x
+
+-- What the slice holds once it is cleared after a refusal.
+abbrev pub leftBy : ListRead → List ℕ → List ℕ
+leftBy (Elements count) list = list
+leftBy (RefusedList x) list = replicate (length list) 0
 
 -- What a list read answers and leaves in a slice of so many words: the elements' words and zeros; or, after a
--- refusal, anything, since the slice is cleared then (`clear_after`).
+-- refusal, anything, since the slice is cleared then (`clear_refused`).
 pub data Writes (size : ℕ) (l : List ℕ) : Listed → ListRead → Type 0 where
   wrote :
       {count : ℕ} {words : List ℕ}

@@ -22,14 +22,14 @@ singleText (sequence children) = Refused WrongKind
 -- "Sequence, its last". An empty one has no last and is, as in the source, of the wrong kind: `before` says so.
 abbrev pub lastText : TextRead → Forest → TextRead
 lastText before none = before
-lastText before (child number label value later) = lastText (singleText value) later
+lastText before (child number row value later) = lastText (singleText value) later
 
 -- "with `DuplicateKeyBehavior::Error`, two or more refuse"
 abbrev pub several : DuplicateKeyBehavior → Forest → Bool
 several TakeLast children = false
 several Error none = false
-several Error (child number label value none) = false
-several Error (child number label value (child number′ label′ value′ later)) = true
+several Error (child number row value none) = false
+several Error (child number row value (child number′ row′ value′ later)) = true
 
 -- The text of a value.
 abbrev pub textOf : DuplicateKeyBehavior → Value → TextRead

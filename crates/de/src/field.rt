@@ -5,8 +5,7 @@ ghost use Rattle.row.specs.Words.{recordCount};
 ghost use Rattle.records.specs.Siblings.{children};
 ghost use Rattle.de.specs.Fields.{sameBytes};
 ghost use Rattle.de.specs.OnRecords.{Readable, isNamedAt, namedAt, fieldAt};
-use crate::refusals::Refusal;
-use records::store;
+use refusals::Refusal;
 
 // The record of a field, or a refusal.
 pub enum FieldAt {

@@ -5,20 +5,17 @@
 // (utf8) and the definitions (reading).
 mod field; // the field of a name
 mod list; // the list of a record
-mod refusals; // refusals 16 to 22
 mod text; // the text of a record
 
 ghost use mathlib.Core.Path.{_≡_};
-ghost use mathlib.Core.Bool.{cond};
 ghost use Prim.Native.Nat.{_≤_};
-ghost use lib.Dec.{leb};
-ghost use lib.ListN.{length, replicate};
-ghost use Rattle.de.specs.Reads.{textAnswer, textRead, listRead};
-ghost use Rattle.de.specs.OnRecords.{elementCount, listReadAnswer};
+ghost use Rattle.de.specs.Reads.{refusedAnswer, textAnswer, textRead, leftIn, listRead};
+ghost use Rattle.de.specs.OnRecords.{elementCount, listReadAnswer, leftBy};
 use config::Config;
 use list::ListRead;
-use parse::Parsed;
+use reading::Reading;
 use records::clearing::clear_words;
+use refusals::Refusal;
 use refusals::code;
 use text::TextRead;
 
@@ -29,78 +26,87 @@ pub enum DuplicateKeyBehavior {
     Error,
 }
 
-// Document 01's result of a field read: the reading's with its own number, and the text's offset and length (of a
-// list, 0 and the number of elements). C gets it as it stands.
+// Document 01's result of a field read: the reading's, with the field's own number where it has one, and the text's
+// offset and length (of a list, 0 and the number of elements). C gets it as it stands.
 #[repr(C)]
 pub struct FieldRead {
-    pub number: u32,
-    pub place: u32,
-    pub records: u32,
-    pub bytes: u32,
+    pub reading: Reading,
     pub offset: u32,
     pub len: u32,
 }
 
-// The result where a number stands: of the reading with its place, or of the field after an accepted reading, whose
-// counts stay.
-fn refused(number: u32, place: u32, records: u32, bytes: u32) -> FieldRead
-    ensures { λ r. ⌜ r
-        ≡ record { number = number; place = place; records = records; bytes = bytes; offset = 0; len = 0 } ⌝ }
+// The result that has no text: of a reading that is refused.
+fn unread(reading: Reading) -> FieldRead
+    ensures { λ r. ⌜ r ≡ record { reading = reading; offset = 0; len = 0 } ⌝ }
 {
     FieldRead {
-        number,
-        place,
-        records,
-        bytes,
+        reading,
         offset: 0,
         len: 0,
     }
 }
 
+// The result where the field is refused after an accepted reading, whose counts stay.
+fn refused(reading: Reading, refusal: Refusal) -> FieldRead
+    ensures { λ r. ⌜ r ≡ refusedAnswer reading refusal ⌝ }
+{
+    unread(Reading {
+        number: code(refusal),
+        place: 0,
+        records: reading.records,
+        bytes: reading.bytes,
+    })
+}
+
 // The result of a text read after an accepted reading.
-fn text_answer(records: u32, bytes: u32, read: TextRead) -> FieldRead
-    ensures { λ r. ⌜ r ≡ textAnswer records bytes read ⌝ }
+fn text_answer(reading: Reading, read: TextRead) -> FieldRead
+    ensures { λ r. ⌜ r ≡ textAnswer reading read ⌝ }
 {
     match read {
         TextRead::Text(offset, len) => FieldRead {
-            number: 0,
-            place: 0,
-            records,
-            bytes,
+            reading,
             offset,
             len,
         },
-        TextRead::Refused(refusal) => refused(code(refusal), 0, records, bytes),
+        TextRead::Refused(refusal) => refused(reading, refusal),
     }
 }
 
 // The result of a list read after an accepted reading. Each element is one of its records, so their number fits.
-fn list_answer(records: u32, bytes: u32, read: ListRead) -> FieldRead
-    requires { ⌜ elementCount read ≤ records ⌝ }
-    ensures { λ r. ⌜ r ≡ listReadAnswer records bytes read ⌝ }
+fn list_answer(reading: Reading, read: ListRead) -> FieldRead
+    requires { ⌜ elementCount read ≤ reading .records ⌝ }
+    ensures { λ r. ⌜ r ≡ listReadAnswer reading read ⌝ }
 {
     match read {
         ListRead::Elements(count) => FieldRead {
-            number: 0,
-            place: 0,
-            records,
-            bytes,
+            reading,
             offset: 0,
             len: count as u32,
         },
-        ListRead::Refused(refusal) => refused(code(refusal), 0, records, bytes),
+        ListRead::Refused(refusal) => refused(reading, refusal),
     }
 }
 
-// What a number leaves in a list: 0 to 3 what it holds, the later ones zeros. Under 0 it holds the elements.
+// What a reading's refusal leaves in a list, by its number: 1 to 3 what it held, the later ones zeros.
 fn clear_after(number: u32, list: &mut [u32])
-    ensures { λ _. ⌜ now (list .exit)
-        ≡ cond (leb number 3) (now (list .entry)) (replicate (length (now (list .entry))) 0) ⌝ }
+    ensures { λ _. ⌜ now (list .exit) ≡ leftIn number (now (list .entry)) ⌝ }
 {
     if number <= 3 {
         return;
     }
     clear_words(list);
+}
+
+// What a list read leaves in the list: the elements, or zeros where it is refused.
+fn clear_refused(read: ListRead, list: &mut [u32])
+    ensures { λ _. ⌜ now (list .exit) ≡ leftBy read (now (list .entry)) ⌝ }
+{
+    match read {
+        ListRead::Elements(_) => {}
+        ListRead::Refused(_) => {
+            clear_words(list);
+        }
+    }
 }
 
 // Reads the input into the lent words and text, and the field of a name in its root as a text. Words and text are as
@@ -117,13 +123,12 @@ pub fn deserialize_str(
         ≡ textRead config duplicates (now (input .entry)) (now (name .entry)) (now (words .entry))
         (now (text .entry)) ⌝ }
 {
-    match parse::parse(input, config, words, text) {
-        Parsed::Accepted(records, bytes) => {
-            let read = text::field_text(words, text, name, duplicates);
-            text_answer(records, bytes, read)
-        }
-        Parsed::Refused(number, place) => refused(number, place as u32, 0, 0),
+    let reading = parse::parse(input, config, words, text).answer();
+    if reading.number != 0 {
+        return unread(reading);
     }
+    let read = text::field_text(words, text, name, duplicates);
+    text_answer(reading, read)
 }
 
 // Reads the input into the lent words and text, and the field of a name in its root as a list, whose elements'
@@ -145,16 +150,12 @@ pub fn deserialize_seq(
         ≡ listRead config duplicates (now (input .entry)) (now (name .entry)) (now (words .entry)) (now (text .entry))
         (now (list .entry)) ⌝ }
 {
-    match parse::parse(input, config, words, text) {
-        Parsed::Accepted(records, bytes) => {
-            let read = list::field_list(words, text, name, duplicates, list);
-            let answer = list_answer(records, bytes, read);
-            clear_after(answer.number, list);
-            answer
-        }
-        Parsed::Refused(number, place) => {
-            clear_after(number, list);
-            refused(number, place as u32, 0, 0)
-        }
+    let reading = parse::parse(input, config, words, text).answer();
+    if reading.number != 0 {
+        clear_after(reading.number, list);
+        return unread(reading);
     }
+    let read = list::field_list(words, text, name, duplicates, list);
+    clear_refused(read, list);
+    list_answer(reading, read)
 }

@@ -9,11 +9,10 @@ ghost use Rattle.de.specs.OnRecords.{oneAt, listAt, fieldAt, fieldListAt
 use crate::DuplicateKeyBehavior;
 use crate::field;
 use crate::field::FieldAt;
-use crate::refusals::Refusal;
 use crate::text;
 use crate::text::TextRead;
 use records::clearing::clear_words;
-use records::store;
+use refusals::Refusal;
 
 // The number of elements, or a refusal.
 pub enum ListRead {

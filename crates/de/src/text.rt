@@ -7,9 +7,8 @@ ghost use Rattle.de.specs.OnRecords.{Readable, stringTextAt, singleTextA
 use crate::DuplicateKeyBehavior;
 use crate::field;
 use crate::field::FieldAt;
-use crate::refusals::Refusal;
 use records::siblings;
-use records::store;
+use refusals::Refusal;
 
 // A text's offset and length, or a refusal.
 pub enum TextRead {

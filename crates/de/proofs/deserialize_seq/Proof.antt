@@ -1,54 +1,19 @@
-use native.Mathlib.Omega.{arith}
+use Rattle.de.proofs.AfterReading.{readable-after, few-listed, list-accepted, list-refused}
 use borrow.Author.Needs.{needs}
-use Rattle.de.proofs.AfterReading.{readable-after, few-listed, place-bounded, list-accepted, list-refused}
 use Rattle.de.proofs.deserialize_seq.Statement.{statement}
 use Rattle.de.proofs.deserialize_seq.Tie as tie
 
 parse-requires : tie.Need-parse-requires
 parse-requires c κs = search needs
 
-enum-known-records : tie.Need-enum-known-records
-enum-known-records c = search needs
-
-field-list-requires : tie.Need-field-list-requires
-field-list-requires c κs =
-    let at-records = c .before .before .before .before in
-    let at-parse = at-records .before .before .before .before .before .before in
-    let start = at-parse .before .before .before .before .before .before .before .before in
-    readable-after (start .args .config) (start .args .input .now) (start .args .words .now) (start .args .text .now) _ _ (at-parse .parse .ensures)
-    (at-records .records .given .1)
-
-list-answer-requires : tie.Need-list-answer-requires
-list-answer-requires c κs =
-    let at-field-list = c .before .before in
-    let at-records = at-field-list .before .before .before .before .before in
-    let at-parse = at-records .before .before .before .before .before .before in
-    let start = at-parse .before .before .before .before .before .before .before .before in
-    few-listed (start .args .config) (start .args .input .now) (start .args .words .now) (start .args .text .now) _ _ (at-parse .parse .ensures)
-    (at-records .records .given .1) (start .args .duplicates) (start .args .name .now) _ (at-field-list .field-list .ensures)
+answer-requires : tie.Need-answer-requires
+answer-requires c κs = search needs
 
 clear-after-requires : tie.Need-clear-after-requires
 clear-after-requires c κs = search needs
 
-enum-known-number : tie.Need-enum-known-number
-enum-known-number c = search needs
-
-clear-after-requires-2 : tie.Need-clear-after-requires-2
-clear-after-requires-2 c κs = search needs
-
-cast-refused : tie.Need-cast-refused
-cast-refused c =
-    let at-number = c .before .before .before .before .before in
-    let at-parse = at-number .before .before .before .before .before .before in
-    let start = at-parse .before .before .before .before .before .before .before .before in
-    omega (
-      arith,
-      place-bounded (start .args .config) (start .args .input .now) (start .args .words .now) (start .args .text .now) _ _ (at-parse .parse .ensures)
-          (at-number .number .given .1),
-    )
-
-refused-requires : tie.Need-refused-requires
-refused-requires c κs = search needs
+unread-requires : tie.Need-unread-requires
+unread-requires c κs = search needs
 
 same-length : tie.Need-same-length
 same-length c = search needs
@@ -61,15 +26,27 @@ same-length-3 c = search needs
 
 returns : tie.Need-returns
 returns c =
-    let at-clear-after = c .before .before in
-    let at-list-answer = at-clear-after .before .before in
-    let at-field-list = at-list-answer .before .before .before in
-    let at-records = at-field-list .before .before .before .before .before in
-    let at-parse = at-records .before .before .before .before .before .before in
+    let at-answer = c .before .before .before .before .before .before .before in
+    let at-parse = at-answer .before .before .before .before .before in
     let start = at-parse .before .before .before .before .before .before .before .before in
-    list-accepted (start .args .config) (start .args .input .now) (start .args .words .now) (start .args .text .now) _ _ (at-parse .parse .ensures)
-    (at-records .records .given .1) (start .args .duplicates) (start .args .name .now) (start .args .list .now) _ _
-    (at-list-answer .list-answer .ensures) (at-field-list .field-list .ensures) (at-clear-after .clear-after .ensures)
+    list-refused (start .args .config) (start .args .input .now) (start .args .words .now) (start .args .text .now) _ _ (at-parse .parse .result) (at-answer .answer .ensures) (at-parse .parse .ensures) (c .before .before .before .before .before .if1 .taken) (start .args .duplicates) (start .args .name .now) (start .args .list .now) _ (c .unread .ensures) (c .before .before .before .clear-after .ensures)
+
+field-list-requires : tie.Need-field-list-requires
+field-list-requires c κs =
+    let at-answer = c .before .before .before .before .before in
+    let at-parse = at-answer .before .before .before .before .before in
+    let start = at-parse .before .before .before .before .before .before .before .before in
+    readable-after (start .args .config) (start .args .input .now) (start .args .words .now) (start .args .text .now) _ _ (at-parse .parse .result) (at-answer .answer .ensures) (at-parse .parse .ensures) (c .before .before .before .if1 .left)
+
+clear-refused-requires : tie.Need-clear-refused-requires
+clear-refused-requires c κs = search needs
+
+list-answer-requires : tie.Need-list-answer-requires
+list-answer-requires c κs =
+    let at-answer = c .before .before .before .before .before .before .before .before .before .before .before .before in
+    let at-parse = at-answer .before .before .before .before .before in
+    let start = at-parse .before .before .before .before .before .before .before .before in
+    few-listed (start .args .config) (start .args .input .now) (start .args .words .now) (start .args .text .now) _ _ (at-parse .parse .result) (at-answer .answer .ensures) (at-parse .parse .ensures) (c .before .before .before .before .before .before .before .before .before .before .if1 .left) (start .args .duplicates) (start .args .name .now) _ (c .before .before .before .before .before .before .field-list .ensures)
 
 same-length-4 : tie.Need-same-length-4
 same-length-4 c = search needs
@@ -82,31 +59,26 @@ same-length-6 c = search needs
 
 returns-2 : tie.Need-returns-2
 returns-2 c =
-    let at-clear-after = c .before .before .before in
-    let at-number = at-clear-after .before .before .before in
-    let at-parse = at-number .before .before .before .before .before .before in
+    let at-answer = c .before .before .before .before .before .before .before .before .before .before .before .before .before in
+    let at-parse = at-answer .before .before .before .before .before in
     let start = at-parse .before .before .before .before .before .before .before .before in
-    list-refused (start .args .config) (start .args .input .now) (start .args .words .now) (start .args .text .now) _ _ (at-parse .parse .ensures)
-    (at-number .number .given .1) (start .args .duplicates) (start .args .name .now) (start .args .list .now) _ (c .refused .ensures)
-    (at-clear-after .clear-after2 .ensures)
+    list-accepted (start .args .config) (start .args .input .now) (start .args .words .now) (start .args .text .now) _ _ (at-parse .parse .result) (at-answer .answer .ensures) (at-parse .parse .ensures) (c .before .before .before .before .before .before .before .before .before .before .before .if1 .left) (start .args .duplicates) (start .args .name .now) (start .args .list .now) _ _ (c .list-answer .ensures) (c .before .before .before .before .before .before .before .field-list .ensures) (c .before .before .before .clear-refused .ensures)
 
 pub deserialize-seq-spec : {M : Type 1} → statement M
 deserialize-seq-spec =
     tie.close
     (tie.spec
     parse-requires
-    enum-known-records
-    field-list-requires
-    list-answer-requires
+    answer-requires
     clear-after-requires
-    enum-known-number
-    clear-after-requires-2
-    cast-refused
-    refused-requires
+    unread-requires
     same-length
     same-length-2
     same-length-3
     returns
+    field-list-requires
+    clear-refused-requires
+    list-answer-requires
     same-length-4
     same-length-5
     same-length-6

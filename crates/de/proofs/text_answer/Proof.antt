@@ -8,9 +8,6 @@ enum-known-read c = search needs
 enum-known-read-2 : tie.Need-enum-known-read-2
 enum-known-read-2 c = search needs
 
-code-requires : tie.Need-code-requires
-code-requires c κs = search needs
-
 refused-requires : tie.Need-refused-requires
 refused-requires c κs = search needs
 
@@ -18,17 +15,8 @@ returns : tie.Need-returns
 returns c = rw (c .before .read .given .1)
 
 returns-2 : tie.Need-returns-2
-returns-2 c =
-    let at-read2 = c .before .before .before in
-    rw (at-read2 .read2 .given .1, ← c .before .code .ensures) (c .refused .ensures)
+returns-2 c = rw (c .before .before .read2 .given .1) (c .refused .ensures)
 
 pub text-answer-spec : {M : Type 1} → statement M
 text-answer-spec =
-    tie.close
-    (tie.spec
-    enum-known-read
-    enum-known-read-2
-    code-requires
-    refused-requires
-    returns
-    returns-2)
+    tie.close (tie.spec enum-known-read enum-known-read-2 refused-requires returns returns-2)
