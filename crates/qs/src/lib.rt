@@ -1,29 +1,20 @@
 // The functions exported to C and Rust, each a thin cover of a proved one; `rt staticlib qs` writes them to one
 // archive. A slice is passed as a pointer and the count of its elements. The definitions are those of the crates
-// below, in C's numbers (specs/Numbers, specs/Readings).
+// below, in C's numbers (specs/Numbers, specs/Arguments).
 // Below it stand the reader (parse), field reads (de), decoding (decode), the test for UTF-8 (utf8) and the settings
-// (config).
+// (config), the answer's struct (reading).
 ghost use mathlib.Core.Path.{_≡_};
 ghost use Rattle.decode.specs.Decoding.{answer, written};
 ghost use Rattle.utf8.specs.Test.{utf8};
 ghost use Rattle.reading.specs.Reading.{reading};
 ghost use Rattle.de.specs.Reads.{textRead, listRead};
 ghost use Rattle.qs.specs.Numbers.{lengthOrNo, oneOrZero, OneForUtf8};
-ghost use Rattle.qs.specs.Readings.{settings, behavior, resultIn};
+ghost use Rattle.qs.specs.Arguments.{settings, behavior};
 use config::Config;
 use de::DuplicateKeyBehavior;
 use de::FieldRead;
 use decode::Decoded;
-use parse::Parsed;
-
-// What a reading answers: document 01's number, place, records used and text bytes used.
-#[repr(C)]
-pub struct Reading {
-    pub number: u32,
-    pub place: u32,
-    pub records: u32,
-    pub bytes: u32,
-}
+use reading::Reading;
 
 // Decodes `raw` into `out`: the decoded length, with the further bytes of `out` as they were; or -1 where the decoded
 // bytes don't fit, with `out` unchanged.
@@ -51,10 +42,7 @@ pub extern "C" fn qs_utf8(bytes: &[u8]) -> i32
 fn settings(depth: u32, form: u32) -> Config
     ensures { λ r. ⌜ r ≡ settings depth form ⌝ }
 {
-    Config {
-        depth: depth as usize,
-        form: form != 0,
-    }
+    Config::with(depth as usize, form != 0)
 }
 
 // What is made of several values where a text is asked for: 0 takes the last, anything else refuses them.
@@ -78,23 +66,10 @@ pub extern "C" fn qs_parse(
     records: &mut [u32],
     text: &mut [u8],
 ) -> Reading
-    ensures { λ r. ⌜ resultIn r (now (records .exit)) (now (text .exit))
+    ensures { λ r. ⌜ record { answer = r; words = now (records .exit); text = now (text .exit) }
         ≡ reading (settings depth form) (now (input .entry)) (now (records .entry)) (now (text .entry)) ⌝ }
 {
-    match parse::parse(input, settings(depth, form), records, text) {
-        Parsed::Accepted(used, bytes) => Reading {
-            number: 0,
-            place: 0,
-            records: used,
-            bytes,
-        },
-        Parsed::Refused(number, place) => Reading {
-            number,
-            place: place as u32,
-            records: 0,
-            bytes: 0,
-        },
-    }
+    parse::parse(input, settings(depth, form), records, text).answer()
 }
 
 // Reads `input` as `qs_parse` does, and then the root's field of that name as a text: its offset and length in

@@ -1,6 +1,7 @@
 // What a reading answers and leaves, against what is stored of it.
 use crate::stored;
 use crate::stored::Case;
+use reading::Reading;
 
 // What each element of the lent slices holds before a reading.
 const BEFORE: u8 = 7;
@@ -23,32 +24,19 @@ pub(crate) fn fill_text(text: &mut [u8]) {
     }
 }
 
-// Whether a case is accepted, at place 0, with so many records and bytes of text.
-pub(crate) fn accepts(case: Case, records: u32, bytes: u32) -> bool {
-    if case.number != 0 {
+// Whether a reading answers what the case has to: number, place, records and bytes of text.
+pub(crate) fn answers(case: Case, answer: Reading) -> bool {
+    let expected = case.answer;
+    if expected.number != answer.number {
         return false;
     }
-    if case.place != 0 {
+    if expected.place != answer.place {
         return false;
     }
-    if case.records != records {
+    if expected.records != answer.records {
         return false;
     }
-    case.bytes == bytes
-}
-
-// Whether a case is refused with this number at this place, and uses no record and no text.
-pub(crate) fn refuses(case: Case, number: u32, place: usize) -> bool {
-    if case.number != number {
-        return false;
-    }
-    if case.place as usize != place {
-        return false;
-    }
-    if case.records != 0 {
-        return false;
-    }
-    case.bytes == 0
+    expected.bytes == answer.bytes
 }
 
 // Whether every word is x.
@@ -138,17 +126,19 @@ fn untouched(words: &[u32], text: &[u8]) -> bool {
     all_bytes(text, BEFORE)
 }
 
-// Whether words and text are as the case has to leave them: as before under numbers 1 to 3, else the used ones, which `left` holds, and zeros.
+// Whether words and text are as the case has to leave them: as before under numbers 1 to 3, else the used ones, which
+// `left` holds, and zeros.
 pub(crate) fn leaves(case: Case, left: &[u8], words: &[u32], text: &[u8]) -> bool {
-    let number = case.number;
+    let answer = case.answer;
+    let number = answer.number;
     match number {
         1..=3 => untouched(words, text),
         _ => {
-            let records = case.records as usize;
-            if !leaves_words(8 * records, left, words) {
+            let records = answer.records as usize;
+            if !leaves_words(row::WIDTH * records, left, words) {
                 return false;
             }
-            leaves_text(case.bytes as usize, left, 32 * records, text)
+            leaves_text(answer.bytes as usize, left, stored::RECORD * records, text)
         }
     }
 }

@@ -1,29 +1,23 @@
-// Replays stored answers: standard input holds readings with all that they have to answer and to leave (FORMAT.md); each is made by `parse` and
-// compared. Prints a line for each case that differs, and at the end how many cases there are and how many differ.
-// Below it stands the reader (parse).
+// Replays stored answers: standard input holds readings with all that they have to answer and to leave (FORMAT.md);
+// each is made by `parse` and compared. Prints a line for each case that differs, and at the end how many cases there
+// are and how many differ.
+// Below it stand the reader (parse), the settings (config), the answer's struct (reading) and a record's row (row).
 mod compare; // what a reading answers and leaves, against what is stored
 mod stored; // the stored cases
 
 use config::Config;
 use libc::STDIN_FILENO;
 use libc::STDOUT_FILENO;
-use parse::Parsed;
 use stored::Case;
 
-// Makes the reading of a case, in slices as long as it lends, and tells whether it answers and leaves what is stored. `left` holds the words and
-// the text that it has to leave.
+// Makes the reading of a case, in slices as long as it lends, and tells whether it answers and leaves what is stored.
+// `left` holds the words and the text that it has to leave.
 fn agrees(case: Case, query: &[u8], left: &[u8], words: &mut [u32], text: &mut [u8]) -> bool {
     compare::fill_words(words);
     compare::fill_text(text);
-    let config = Config {
-        depth: case.depth as usize,
-        form: case.form == 1,
-    };
-    let answered = match parse::parse(query, config, words, text) {
-        Parsed::Accepted(records, bytes) => compare::accepts(case, records, bytes),
-        Parsed::Refused(number, place) => compare::refuses(case, number, place),
-    };
-    if !answered {
+    let config = Config::with(case.depth as usize, case.form == 1);
+    let answer = parse::parse(query, config, words, text).answer();
+    if !compare::answers(case, answer) {
         return false;
     }
     compare::leaves(case, left, words, text)
@@ -96,11 +90,18 @@ fn replay(
     differ
 }
 
+// The most that a stored case has: bytes of input, records, and bytes of text.
+const INPUT: usize = 65536;
+
+const RECORDS: usize = 2000;
+
+const TEXT: usize = 65535;
+
 fn main() {
-    let mut query = [0u8; 65536];
-    let mut left = [0u8; 129535];
-    let mut words = [0u32; 16000];
-    let mut text = [0u8; 65535];
+    let mut query = [0u8; INPUT];
+    let mut left = [0u8; RECORDS * row::WIDTH * 4 + TEXT];
+    let mut words = [0u32; RECORDS * row::WIDTH];
+    let mut text = [0u8; TEXT];
     let count = stored::read_count();
     let differ = replay(count, &mut query, &mut left, &mut words, &mut text);
     print(b"", count, b" cases, ");

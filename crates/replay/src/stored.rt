@@ -2,18 +2,17 @@
 ghost use Prim.Native.Nat.{_+_, _≤_};
 ghost use lib.ListN.{length};
 use libc::STDIN_FILENO;
+use reading::Reading;
 
-// What stands at the front of a case: the settings, what is lent, the input's length, and what the reading has to answer.
+// What stands at the front of a case: the settings, what is lent, the input's length, and what the reading has to
+// answer.
 pub(crate) struct Case {
     pub depth: u32,
     pub form: u32,
     pub words: u32,
     pub text: u32,
     pub len: u32,
-    pub number: u32,
-    pub place: u32,
-    pub records: u32,
-    pub bytes: u32,
+    pub answer: Reading,
 }
 
 // The number in two bytes, lower byte first.
@@ -40,16 +39,22 @@ pub(crate) fn case_of(front: &[u8; 36]) -> Case {
         words: number_at(front, 8),
         text: number_at(front, 12),
         len: number_at(front, 16),
-        number: number_at(front, 20),
-        place: number_at(front, 24),
-        records: number_at(front, 28),
-        bytes: number_at(front, 32),
+        answer: Reading {
+            number: number_at(front, 20),
+            place: number_at(front, 24),
+            records: number_at(front, 28),
+            bytes: number_at(front, 32),
+        },
     }
 }
 
+// How many bytes hold a record: four a word.
+pub(crate) const RECORD: usize = row::WIDTH * 4;
+
 // How many bytes hold the words and the text that a case leaves.
 pub(crate) fn left_len(case: Case) -> usize {
-    case.records as usize * 32 + case.bytes as usize
+    let answer = case.answer;
+    answer.records as usize * RECORD + answer.bytes as usize
 }
 
 // Reads the next n bytes of the input to the front of a slice, and tells whether they were there and found room.
