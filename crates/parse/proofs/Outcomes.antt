@@ -4,7 +4,7 @@ use mathlib.Core.Path.{_≡_, refl, sym, ap, _∙_, subst}
 use mathlib.Core.Bool.{Bool, true, false}
 use mathlib.Core.List.{List, [], _∷_}
 use native.Mathlib.Omega.{arith}
-use borrow.Author.Tests.{leb-true, leb-false, lt-ltb, le-ltb}
+use borrow.Author.Tests.{leb-true, leb-false, ltb-true, ltb-false}
 use lib.Dec.{leb, ltb}
 use lib.ListN.{length, replicate, length-replicate}
 use Rattle.config.specs.declared.Config.{Config}
@@ -13,12 +13,13 @@ use Rattle.row.specs.Row.{recordWidth, noValueKind}
 use Rattle.refusals.specs.declared.Refusal.{Refusal}
 use Rattle.refusals.specs.declared.Refusal.the-variants.{TooDeep, TooLong, NoRecord}
 use Rattle.reading.specs.Values.{uninitialized, noValue}
-use Rattle.reading.specs.Charging.{Lent}
+use Rattle.reading.specs.Charging.{Lent, rootOnly}
 use Rattle.reading.specs.Scanning.{rootKey}
 use Rattle.reading.specs.Running.{Answer, accepted}
-use Rattle.reading.specs.Reading.{lentBy, parsed, outcome, reading}
+use Rattle.reading.specs.Reading.{lentBy, alone, lending, parsed, outcome, reading}
 use Rattle.reading.specs.Covering.{gives}
 use Rattle.reading.proofs.Placed.{read-placed}
+use Rattle.reading.proofs.Limits.{limits}
 use Rattle.cursor.specs.From.{from}
 use Rattle.cursor.proofs.From.{from-start}
 use Rattle.row.specs.Words.{recordCount}
@@ -43,21 +44,21 @@ start = record { records = 1; bytes = 0; node = 0 }
 
 -- Cleared slices hold the Uninitialized root, with which the reading of an input starts.
 module _ (config : Config) {s W X : List ℕ} (small : length s ≤ maxLen) (some : recordWidth ≤ length W) (a : W ≡ replicate (length W) 0) (b : X ≡ replicate (length X) 0) where
-  start-reads : Reads config s W X start 0 (still (λ path. rootKey [])) (from config (lentBy W X) s 0 (rootKey []) uninitialized 1 [])
+  start-reads : Reads config s W X start 0 (still (λ path. rootKey [])) (from config (lending (lentBy W X)) s 0 (rootKey []) (alone uninitialized) rootOnly)
   start-reads =
       record {
-        lent = lentBy W X;
+        env = lending (lentBy W X);
         path = [];
-        tree = uninitialized;
+        tree = alone uninitialized;
         laid = [];
         stands = record {
           lent-is = refl;
-          stores = subst (λ (x : List ℕ). Stores W x 1 0 uninitialized []) (sym b)
-              (subst (λ (w : List ℕ). Stores w (replicate (length X) 0) 1 0 uninitialized []) (sym a) (cleared (length W) (length X) some));
-          leads = root uninitialized;
+          stores = subst (λ (x : List ℕ). Stores W x 1 0 (alone uninitialized) []) (sym b)
+              (subst (λ (w : List ℕ). Stores w (replicate (length X) 0) 1 0 (alone uninitialized) []) (sym a) (cleared (length W) (length X) some));
+          leads = root (alone uninitialized);
         };
         onward = refl;
-        covered = gives {a = uninitialized} {n = 1} {t = []} (record { records = omega arith; bytes = omega arith });
+        covered = gives {a = alone uninitialized} {u = rootOnly} (record { records = omega arith; bytes = omega arith });
         records = omega arith;
         bytes = omega arith;
         small = small;
@@ -65,7 +66,7 @@ module _ (config : Config) {s W X : List ℕ} (small : length s ≤ maxLen) (som
       }
 
   pub start-ready : Ready config s W X start 0 (still (λ path. rootKey []))
-  start-ready = record { answer = from config (lentBy W X) s 0 (rootKey []) uninitialized 1 []; reads = start-reads }
+  start-ready = record { answer = from config (lending (lentBy W X)) s 0 (rootKey []) (alone uninitialized) rootOnly; reads = start-reads }
 
   -- The answer to an input that isn't empty.
   module _ (nonempty : 0 < length s) (W′ X′ : List ℕ) (w : length W′ ≡ length W) (x : length X′ ≡ length X) {turn : Turn}
@@ -73,7 +74,7 @@ module _ (config : Config) {s W X : List ℕ} (small : length s ≤ maxLen) (som
     ends : {turn′ : Turn} → turn ≡ turn′ → Ends (parsed config s (lentBy W X)) W′ X′ turn′
     ends e = subst (λ (z : Turn). Ends (parsed config s (lentBy W X)) W′ X′ z) e
         (subst (λ (z : Answer). Ends z W′ X′ turn) (sym (from-start config (lentBy W X) s nonempty))
-        (g (from config (lentBy W X) s 0 (rootKey []) uninitialized 1 []) start-reads))
+        (g (from config (lending (lentBy W X)) s 0 (rootKey []) (alone uninitialized) rootOnly) start-reads))
 
     pub some-accepted : {place : ℕ} {here : Here} → turn ≡ Going place here
         → outcomeOf (Accepted (here .records) (here .bytes)) W′ X′ ≡ outcome (length W) (length X) (parsed config s (lentBy W X))
@@ -122,12 +123,12 @@ module _ (W X W′ X′ : List ℕ) (a : W′ ≡ replicate (length W) 0) (b : X
   empty-accepted config (c ∷ s) e some q = absurd (omega arith)
   empty-accepted config [] e some {W″} {r} q =
       let long : length W″ ≡ length W = ap length (q .0) ∙ length-withValue W′ 0 (childless noValueKind) ∙ cleared-words in
-      let stores : Stores W″ X′ 1 0 noValue [] =
-      subst (λ (x : List ℕ). Stores W″ x 1 0 noValue []) (sym b)
-      (subst (λ (w : List ℕ). Stores w (replicate (length X) 0) 1 0 noValue [])
+      let stores : Stores W″ X′ 1 0 (alone noValue) [] =
+      subst (λ (x : List ℕ). Stores W″ x 1 0 (alone noValue) []) (sym b)
+      (subst (λ (w : List ℕ). Stores w (replicate (length X) 0) 1 0 (alone noValue) [])
       (sym (q .0 ∙ ap (λ (w : List ℕ). withValue w 0 (childless noValueKind)) a)) (no-value (length W) (length X) some)) in
       ap (λ (z : Parsed). outcomeOf z W″ X′) (q .1)
-      ∙ sym (ap (λ (n : ℕ). outcome n (length X) (accepted noValue 1 [])) (sym long) ∙ ap (λ (n : ℕ). outcome (length W″) n (accepted noValue 1 []))
+      ∙ sym (ap (λ (n : ℕ). outcome n (length X) (accepted (alone noValue) rootOnly)) (sym long) ∙ ap (λ (n : ℕ). outcome (length W″) n (accepted (alone noValue) rootOnly))
       (sym cleared-text) ∙ outcome-is stores)
 
 -- Whether so many records are lent.
@@ -141,19 +142,21 @@ module _ (W : List ℕ) {n : ℕ} {b : Bool} (e : b ≡ leb n (recordCount W)) w
 -- Refusals 1 to 3.
 module _ (config : Config) (s W X : List ℕ) where
   pub too-deep : ltb maxDepth (config .depth) ≡ true → outcomeOf (RefusedHere TooDeep 0) W X ≡ reading config s W X
-  unfolding reading
-  too-deep h = rw h
+  too-deep h = sym (limits .deep config s W X (ltb-true maxDepth (config .depth) h))
 
   module _ (h : ltb maxDepth (config .depth) ≡ false) where
+    shallow : config .depth ≤ maxDepth
+    shallow = ltb-false maxDepth (config .depth) h
+
     pub too-long : ltb maxLen (length s) ≡ true → outcomeOf (RefusedHere TooLong 0) W X ≡ reading config s W X
-    unfolding reading
-    too-long k = rw (h, k)
+    too-long k = sym (limits .long config s W X shallow (ltb-true maxLen (length s) k))
 
     module _ (k : ltb maxLen (length s) ≡ false) where
+      short : length s ≤ maxLen
+      short = ltb-false maxLen (length s) k
+
       pub no-record : length W < recordWidth → outcomeOf (RefusedHere NoRecord 0) W X ≡ reading config s W X
-      unfolding reading
-      no-record l = rw (h, k, lt-ltb (length W) recordWidth l)
+      no-record l = sym (limits .few config s W X shallow short l)
 
       pub is-read : recordWidth ≤ length W → outcome (length W) (length X) (parsed config s (lentBy W X)) ≡ reading config s W X
-      unfolding reading
-      is-read l = rw (h, k, le-ltb (length W) recordWidth l)
+      is-read l = sym (limits .within config s W X shallow short l)
