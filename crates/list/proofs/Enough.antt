@@ -10,10 +10,11 @@ use lib.ListN.{length, take, drop, length-append, length-drop, take-append-drop}
 use lib.Seq.{drop-append-le, length-take-le}
 use Rattle.laws.proofs.Cases.{below}
 use Rattle.config.specs.declared.Config.{Config}
+use Rattle.config.specs.Defaults.{settings}
 use Rattle.config.specs.Limits.{maxLen}
 use Rattle.ascii.specs.Digits.{isDigit, valueFrom}
 use Rattle.ascii.specs.Texts.{ascii}
-use Rattle.reading.specs.Reading.{reading}
+use Rattle.reading.specs.Reading.{read, reading}
 use Rattle.head.specs.declared.Head.{Head}
 use Rattle.head.specs.declared.Head.the-variants.{Bad, Good}
 use Rattle.listing.specs.Listing.{listing}
@@ -85,7 +86,7 @@ head-early first h =
 -- Of a query string that is too long nothing else matters.
 too-long : (config : Config) (input other words text : List ℕ) → maxLen < length input → maxLen < length other
     → reading config input words text ≡ reading config other words text
-unfolding reading
+unfolding read
 too-long config input other words text h k = rw (lt-ltb maxLen (length input) h, lt-ltb maxLen (length other) k)
 
 pub enough : Enough
@@ -95,5 +96,5 @@ enough first rest words text h =
     go : (head : Head) → Inside longestHead head → replyTo head (first ++ rest) words text ≡ replyTo head first words text
     go Bad i = refl
     go (Good depth form start) i =
-        ap listing (too-long (record { depth = depth; form = form }) (drop start (first ++ rest)) (drop start first) words text
+        ap listing (too-long (settings depth form) (drop start (first ++ rest)) (drop start first) words text
         (omega (arith, length-drop start (first ++ rest), length-append first rest)) (omega (arith, length-drop start first)))

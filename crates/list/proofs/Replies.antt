@@ -10,23 +10,23 @@ use lib.Seq.{take-all}
 use Rattle.laws.proofs.Cases.{below}
 use Rattle.laws.proofs.Lists.{mid-tail}
 use Rattle.config.specs.declared.Config.{Config}
+use Rattle.config.specs.Defaults.{settings}
 use Rattle.row.specs.Words.{recordCount}
 use Rattle.reading.specs.declared.Reading.{Reading}
 use Rattle.reading.specs.Reading.{reading}
-use Rattle.reading.proofs.Outcomes.{answers, of-accepted}
+use Rattle.reading.proofs.Outcomes.{answers, of-outcome}
 use Rattle.reading.proofs.Placed.{placed}
 use Rattle.parse.specs.declared.Parsed.{Parsed}
 use Rattle.parse.specs.Outcomes.{answerOf, outcomeOf}
 use Rattle.output.specs.declared.Written.{Written}
 use Rattle.head.specs.declared.Head.{Head}
 use Rattle.head.specs.declared.Head.the-variants.{Bad, Good}
-use Rattle.listing.specs.Listing.{listing}
 use Rattle.listing.specs.Bounded.{boundedListing, outcomeFrom}
 use Rattle.output.specs.Output.{answerFor, filled}
 use Rattle.head.specs.Heads.{headOf}
-use Rattle.listing.specs.Listing.{badHead}
+use Rattle.listing.specs.Listing.{badHead, listing}
 use Rattle.listing.specs.Room.{Narrow}
-use Rattle.listing.proofs.Complete.{whichever, complete}
+use Rattle.listing.proofs.Complete.{complete}
 use Rattle.listing.proofs.Room.{room}
 use Rattle.head.proofs.Heads.{Inside, head-inside}
 use Rattle.list.specs.Reply.{replyTo, reply}
@@ -54,8 +54,8 @@ module _ (config : Config) (input words text out : List ℕ) (lent : Lent words 
       (λ h. let n = answers config input words text .refusedCounts (omega arith) in (omega (arith, n .0), omega (arith, n .1)))
       (λ h.
       let within =
-      whichever (of-accepted (λ p v n t. (p .answer .records ≤ recordCount words) × (p .answer .bytes ≤ length text)) config input words text
-      (λ v n t s. (s .within .records, s .within .bytes)) (omega arith)) in
+      of-outcome (λ p. (p .answer .records ≤ recordCount words) × (p .answer .bytes ≤ length text)) config input words text
+      (λ n u s. (s .within .records, s .within .bytes)) (omega arith) in
       (omega (arith, within .0, lent .records), omega (arith, within .1, lent .bytes)))
 
   narrow : ((i : ℕ) → getD ((reading config input words text) .words) i 0 < 2 ^ 32) → Narrow (reading config input words text)
@@ -92,8 +92,7 @@ module _ (input words text out out′ : List ℕ) {head : Head} {r : ℕ} (told 
   pub bad-reply : head ≡ Bad → WroteAll badHead out out′ r → WroteAll (reply input words text) out out′ r
   bad-reply e w = subst (λ h. WroteAll (replyTo h input words text) out out′ r) (sym e ∙ told) w
 
-  pub good-reply : (config : Config) (start : ℕ) → head ≡ Good (config .depth) (config .form) start
+  pub good-reply : {depth start : ℕ} {form : Bool} {config : Config} → head ≡ Good depth form start → config ≡ settings depth form
       → WroteAll (listing (reading config (take (length input - start) (drop start input)) words text)) out out′ r → WroteAll (reply input words text) out out′ r
-  good-reply config start e w =
-      subst (λ h. WroteAll (replyTo h input words text) out out′ r) (sym e ∙ told)
-      (subst (λ query. WroteAll (listing (reading config query words text)) out out′ r) (mid-tail start input) w)
+  good-reply {start = start} e f w =
+      subst (λ h. WroteAll (replyTo h input words text) out out′ r) (sym e ∙ told) (rw (f, mid-tail start input) at w)

@@ -2,19 +2,19 @@
 use Prim.Native.Nat.{ℕ}
 use mathlib.Core.List.{List}
 use lib.ListN.{drop}
+use Rattle.config.specs.Defaults.{settings}
 use Rattle.reading.specs.Reading.{reading}
 use Rattle.head.specs.declared.Head.{Head}
 use Rattle.head.specs.declared.Head.the-variants.{Bad, Good}
 use Rattle.head.specs.Heads.{headOf}
-use Rattle.listing.specs.Listing.{badHead}
-use Rattle.listing.specs.Listing.{listing}
+use Rattle.listing.specs.Listing.{badHead, listing}
 
 -- "A bad head prints only `answer=head`." After a good one the rest is the query string (document 01's "ticket"), "to
 -- end of file".
 abbrev pub replyTo : Head → List ℕ → List ℕ → List ℕ → List ℕ
 replyTo Bad input words text = badHead
 replyTo (Good depth form start) input words text =
-    listing (reading (record { depth = depth; form = form }) (drop start input) words text)
+    listing (reading (settings depth form) (drop start input) words text)
 
 -- The words and the text are those that the program lends, as they were before.
 abbrev pub reply : List ℕ → List ℕ → List ℕ → List ℕ

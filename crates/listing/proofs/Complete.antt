@@ -11,13 +11,12 @@ use lib.ListN.{length, drop, length-append}
 use lib.Seq.{take-all}
 use Rattle.config.specs.declared.Config.{Config}
 use Rattle.key.specs.Keys.{Key}
-use Rattle.reading.specs.Running.{Answer, Accepts, accepts}
 use Rattle.row.specs.Words.{recordCount}
 use Rattle.reading.specs.Reading.{Outcome, reading}
 use Rattle.reading.specs.Trees.{Tree, uninitialized, null, noValue, string, map, sequence, Entries, noEntries, entry, Elements, noElements, element}
 use Rattle.reading.specs.Buffers.{treeIn}
 use Rattle.reading.specs.Counts.{values, entryValues, elementValues}
-use Rattle.reading.proofs.Outcomes.{answers, counts, of-accepted}
+use Rattle.reading.proofs.Outcomes.{answers, counts, of-outcome}
 use Rattle.listing.specs.Lines.{treeLines, entryLines, elementLines}
 use Rattle.listing.specs.Listing.{answerLines, valueLines, listing}
 use Rattle.listing.specs.Bounded.{boundedValues, boundedListing}
@@ -45,10 +44,6 @@ mutual
   element-values (element v xs) level =
       length-append (treeLines v level none) (elementLines xs level) ∙ omega (arith, tree-values v level none, element-values xs level)
 
--- What doesn't speak of the tree holds without it.
-pub whichever : {P : Type 0} {a : Answer} → Accepts (λ v n t. P) a → P
-whichever (accepts h) = h
-
 module _ (config : Config) (input words text : List ℕ) where
   o : Outcome
   o = reading config input words text
@@ -58,7 +53,7 @@ module _ (config : Config) (input words text : List ℕ) where
   all-values e =
       let v = treeIn (o .words) (o .text) in
       let fits : o .answer .records ≤ recordCount words =
-      whichever (of-accepted (λ p w n t. p .answer .records ≤ recordCount words) config input words text (λ w n t s. s .within .records) e) in
+      of-outcome (λ p. p .answer .records ≤ recordCount words) config input words text (λ n u s. s .within .records) e in
       take-all (recordCount (o .words)) (treeLines v 0 none)
       (omega (arith, tree-values v 0 none, counts config input words text e .records, answers config input words text .lengths .0, fits))
 

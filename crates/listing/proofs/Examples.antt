@@ -5,12 +5,12 @@ use Rattle.decode.specs.Hex.{digitOf}
 use Rattle.decode.specs.Decoding.{decoded}
 use Rattle.ascii.specs.Digits.{allDigits, valueFrom}
 use Rattle.row.specs.Words.{word}
-use Rattle.reading.specs.Reading.{reading}
+use Rattle.reading.specs.Reading.{read}
 use Rattle.output.specs.Numbers.{decimalIn, decimal, hex}
 use Rattle.listing.specs.Lines.{ownLines, treeLines}
 use Rattle.listing.specs.Listing.{answerLines, listing}
 use Rattle.listing.specs.Examples.{ExamplesPass}
 
 pub examples-pass : ExamplesPass
-unfolding word reading decoded digitOf allDigits valueFrom decimalIn decimal hex ownLines treeLines answerLines listing flatten flatMap
+unfolding word read decoded digitOf allDigits valueFrom decimalIn decimal hex ownLines treeLines answerLines listing flatten flatMap
 examples-pass = refl

@@ -12,11 +12,12 @@ use Rattle.key.specs.Keys.{Key, int, str}
 use Rattle.ascii.specs.Texts.{ascii}
 use Rattle.reading.specs.declared.Reading.{Reading}
 use Rattle.reading.specs.Reading.{reading}
-use Rattle.reading.specs.Trees.{Tree, uninitialized, null, noValue, string, map, sequence, Entries, noEntries, entry, Elements, noElements, element}
+use Rattle.reading.specs.Values.{unkeyed, intKey, stringKey, labelKey, rowKey, Value, Forest, child}
+use Rattle.reading.specs.Trees.{Tree, uninitialized, null, noValue, string, map, sequence, plain, entries, elements}
 use Rattle.row.specs.Row.{kindWord, keyKindWord, keyWord, keyLengthWord, textWord, textLengthWord, childWord, nextWord}
 use Rattle.row.specs.Row.{mapKind, sequenceKind, stringKind, nullKind, noValueKind, intKeyKind}
 use Rattle.row.specs.Words.{word, textPart}
-use Rattle.reading.specs.Buffers.{byKind, keyAt, treeAt, entriesAt, elementsAt, treeIn}
+use Rattle.reading.specs.Buffers.{rowIn, byKind, valueWithin, forestWithin, valueIn}
 use Rattle.reading.specs.Counts.{values, entryValues, elementValues, keyLength, textBytes, entryBytes, elementBytes}
 use Rattle.reading.proofs.Outcomes.{counts}
 use Rattle.output.proofs.Lengths.{decimal-length, hex-length}
@@ -35,21 +36,17 @@ NarrowShown none = Unit
 NarrowShown (some key) = NarrowKey key
 
 abbrev mutual
-  NarrowTree : Tree → Type 0
-  NarrowTree (map es) = NarrowEntries es
-  NarrowTree (sequence xs) = NarrowElements xs
-  NarrowTree (string x) = Unit
-  NarrowTree null = Unit
-  NarrowTree noValue = Unit
-  NarrowTree uninitialized = Unit
+  NarrowValue : Value → Type 0
+  NarrowValue (Value.map children) = NarrowForest children
+  NarrowValue (Value.sequence children) = NarrowForest children
+  NarrowValue (Value.string o x) = Unit
+  NarrowValue Value.null = Unit
+  NarrowValue Value.noValue = Unit
+  NarrowValue Value.uninitialized = Unit
 
-  NarrowEntries : Entries → Type 0
-  NarrowEntries noEntries = Unit
-  NarrowEntries (entry key v es) = NarrowKey key × NarrowTree v × NarrowEntries es
-
-  NarrowElements : Elements → Type 0
-  NarrowElements noElements = Unit
-  NarrowElements (element v xs) = NarrowTree v × NarrowElements xs
+  NarrowForest : Forest → Type 0
+  NarrowForest Forest.none = Unit
+  NarrowForest (child number row v later) = NarrowKey (rowKey row) × NarrowValue v × NarrowForest later
 
 -- The bytes of text that a value's own lines show.
 abbrev shownBytes : Option Key → ℕ
@@ -93,73 +90,61 @@ own-length level key v h k = simp length-append (omega (arith, decimal-length le
 mutual
   unfolding treeLines flatten
 
-  tree-length : (v : Tree) (level : ℕ) (key : Option Key) → NarrowTree v → NarrowShown key → level + values v ≤ 2 ^ 32
-      → length (flatten (treeLines v level key)) ≤ valueRoom * values v + 2 * (shownBytes key + textBytes v)
-  tree-length (map es) level key h k q =
-      simp length-append (omega (arith, own-length level key (map es) (omega arith) k, entries-length es (level + 1) h (omega arith)))
-  tree-length (sequence xs) level key h k q =
-      simp length-append (omega (arith, own-length level key (sequence xs) (omega arith) k, elements-length xs (level + 1) h (omega arith)))
-  tree-length (string x) level key h k q = simp length-append (omega (arith, own-length level key (string x) (omega arith) k))
-  tree-length null level key h k q = simp length-append (omega (arith, own-length level key null (omega arith) k))
-  tree-length noValue level key h k q = simp length-append (omega (arith, own-length level key noValue (omega arith) k))
-  tree-length uninitialized level key h k q = simp length-append (omega (arith, own-length level key uninitialized (omega arith) k))
+  value-length : (v : Value) (level : ℕ) (key : Option Key) → NarrowValue v → NarrowShown key → level + values (plain v) ≤ 2 ^ 32
+      → length (flatten (treeLines (plain v) level key)) ≤ valueRoom * values (plain v) + 2 * (shownBytes key + textBytes (plain v))
+  value-length (Value.map children) level key h k q =
+      simp length-append (omega (arith, own-length level key (map (entries children)) (omega arith) k, entries-length children (level + 1) h (omega arith)))
+  value-length (Value.sequence children) level key h k q =
+      simp length-append (omega (arith, own-length level key (sequence (elements children)) (omega arith) k, elements-length children (level + 1) h (omega arith)))
+  value-length (Value.string o x) level key h k q = simp length-append (omega (arith, own-length level key (string x) (omega arith) k))
+  value-length Value.null level key h k q = simp length-append (omega (arith, own-length level key null (omega arith) k))
+  value-length Value.noValue level key h k q = simp length-append (omega (arith, own-length level key noValue (omega arith) k))
+  value-length Value.uninitialized level key h k q = simp length-append (omega (arith, own-length level key uninitialized (omega arith) k))
 
-  entries-length : (es : Entries) (level : ℕ) → NarrowEntries es → level + entryValues es ≤ 2 ^ 32
-      → length (flatten (entryLines es level)) ≤ valueRoom * entryValues es + 2 * entryBytes es
-  entries-length noEntries level h q = omega arith
-  entries-length (entry key v es) level h q =
-      rw (flatten-append (treeLines v level (some key)) (entryLines es level), length-append)
-      (omega (arith, tree-length v level (some key) (h .1) (h .0) (omega arith), entries-length es level (h .2) (omega arith)))
+  entries-length : (f : Forest) (level : ℕ) → NarrowForest f → level + entryValues (entries f) ≤ 2 ^ 32
+      → length (flatten (entryLines (entries f) level)) ≤ valueRoom * entryValues (entries f) + 2 * entryBytes (entries f)
+  entries-length Forest.none level h q = omega arith
+  entries-length (child number row v later) level h q =
+      rw (flatten-append (treeLines (plain v) level (some (rowKey row))) (entryLines (entries later) level), length-append)
+      (omega (arith, value-length v level (some (rowKey row)) (h .1) (h .0) (omega arith), entries-length later level (h .2) (omega arith)))
 
-  elements-length : (xs : Elements) (level : ℕ) → NarrowElements xs → level + elementValues xs ≤ 2 ^ 32
-      → length (flatten (elementLines xs level)) ≤ valueRoom * elementValues xs + 2 * elementBytes xs
-  elements-length noElements level h q = omega arith
-  elements-length (element v xs) level h q =
-      rw (flatten-append (treeLines v level none) (elementLines xs level), length-append)
-      (omega (arith, tree-length v level none (h .0) tt (omega arith), elements-length xs level (h .1) (omega arith)))
+  elements-length : (f : Forest) (level : ℕ) → NarrowForest f → level + elementValues (elements f) ≤ 2 ^ 32
+      → length (flatten (elementLines (elements f) level)) ≤ valueRoom * elementValues (elements f) + 2 * elementBytes (elements f)
+  elements-length Forest.none level h q = omega arith
+  elements-length (child number row v later) level h q =
+      rw (flatten-append (treeLines (plain v) level none) (elementLines (elements later) level), length-append)
+      (omega (arith, value-length v level none (h .1) tt (omega arith), elements-length later level (h .2) (omega arith)))
 
--- The tree in words that are u32s has Int keys that are.
+-- The values in words that are u32s have Int keys that are.
 module _ (words text : List ℕ) (small : (i : ℕ) → getD words i 0 < 2 ^ 32) where
-  narrow-key : (i : ℕ) → NarrowKey (keyAt words text i)
+  narrow-row : (keyed : Bool) (i : ℕ) → NarrowKey (rowKey (rowIn keyed words text i))
   unfolding word
-  narrow-key i = go (eqb (word words i keyKindWord) intKeyKind)
+  narrow-row keyed i = go keyed (eqb (word words i keyKindWord) intKeyKind)
     where
-      go : (b : Bool) → NarrowKey (cond b (int (word words i keyWord)) (str (textPart text (word words i keyWord) (word words i keyLengthWord))))
-      go true = small _
-      go false = tt
+      go : (b c : Bool) → NarrowKey (labelKey (cond b
+          (cond c (intKey (word words i keyWord)) (stringKey (word words i keyWord) (textPart text (word words i keyWord) (word words i keyLengthWord)))) unkeyed))
+      go true true = small _
+      go true false = tt
+      go false c = tt
 
-  narrow-kind : (k : ℕ) (x : List ℕ) (es : Entries) (xs : Elements) → NarrowEntries es → NarrowElements xs → NarrowTree (byKind k x es xs)
-  narrow-kind k x es xs g h =
-      by-test NarrowTree (eqb k mapKind) (λ e. g) (λ e. by-test NarrowTree (eqb k sequenceKind) (λ e. h)
-      (λ e. by-test NarrowTree (eqb k stringKind) (λ e. tt) (λ e. by-test NarrowTree (eqb k nullKind) (λ e. tt)
-      (λ e. by-test NarrowTree (eqb k noValueKind) (λ e. tt) (λ e. tt)))))
-
-  narrow-entries : (b : Bool) (es : Entries) → NarrowEntries es → NarrowEntries (cond b noEntries es)
-  narrow-entries true es h = tt
-  narrow-entries false es h = h
-
-  narrow-elements : (b : Bool) (xs : Elements) → NarrowElements xs → NarrowElements (cond b noElements xs)
-  narrow-elements true xs h = tt
-  narrow-elements false xs h = h
+  narrow-kind : (k o : ℕ) (x : List ℕ) (children : Forest) → NarrowForest children → NarrowValue (byKind k (Value.string o x) children)
+  narrow-kind k o x children h =
+      by-test NarrowValue (eqb k mapKind) (λ e. h) (λ e. by-test NarrowValue (eqb k sequenceKind) (λ e. h)
+      (λ e. by-test NarrowValue (eqb k stringKind) (λ e. tt) (λ e. by-test NarrowValue (eqb k nullKind) (λ e. tt)
+      (λ e. by-test NarrowValue (eqb k noValueKind) (λ e. tt) (λ e. tt)))))
 
   mutual
-    narrow-tree-at : (steps i : ℕ) → NarrowTree (treeAt steps words text i)
-    narrow-tree-at zero i = tt
-    narrow-tree-at (suc steps) i =
-        narrow-kind (word words i kindWord) (textPart text (word words i textWord) (word words i textLengthWord)) (entriesAt steps words text (word words i childWord))
-        (elementsAt steps words text (word words i childWord)) (narrow-entries-at steps (word words i childWord)) (narrow-elements-at steps (word words i childWord))
+    narrow-value : (steps i : ℕ) → NarrowValue (valueWithin steps words text i)
+    narrow-value zero i = tt
+    narrow-value (suc steps) i =
+        let k = word words i kindWord in
+        narrow-kind k (word words i textWord) (textPart text (word words i textWord) (word words i textLengthWord))
+        (forestWithin steps (eqb k mapKind) words text (word words i childWord)) (narrow-forest steps (eqb k mapKind) (word words i childWord))
 
-    narrow-entries-at : (steps i : ℕ) → NarrowEntries (entriesAt steps words text i)
-    narrow-entries-at zero i = tt
-    narrow-entries-at (suc steps) i =
-        narrow-entries (eqb i 0) (entry (keyAt words text i) (treeAt steps words text i) (entriesAt steps words text (word words i nextWord)))
-        (narrow-key i, narrow-tree-at steps i, narrow-entries-at steps (word words i nextWord))
-
-    narrow-elements-at : (steps i : ℕ) → NarrowElements (elementsAt steps words text i)
-    narrow-elements-at zero i = tt
-    narrow-elements-at (suc steps) i =
-        narrow-elements (eqb i 0) (element (treeAt steps words text i) (elementsAt steps words text (word words i nextWord)))
-        (narrow-tree-at steps i, narrow-elements-at steps (word words i nextWord))
+    narrow-forest : (steps : ℕ) (keyed : Bool) (i : ℕ) → NarrowForest (forestWithin steps keyed words text i)
+    narrow-forest zero keyed i = tt
+    narrow-forest (suc steps) keyed i =
+        by-test NarrowForest (eqb i 0) (λ e. tt) (λ e. (narrow-row keyed i, narrow-value steps i, narrow-forest steps keyed (word words i nextWord)))
 
 answer-length : (a : Reading) → a .number < 2 ^ 32 → a .place < 2 ^ 32 → a .records < 2 ^ 32 → a .bytes < 2 ^ 32
     → length (answerLines a) ≤ answerRoom
@@ -171,11 +156,11 @@ pub room : Room
 unfolding listing
 room config input words text h =
     let o = reading config input words text in
-    let v = treeIn (o .words) (o .text) in
+    let v = valueIn (o .words) (o .text) in
     let first = answer-length (o .answer) (h .number) (h .place) (h .records) (h .bytes) in
     split (eqb (o .answer .number) 0)
     (λ e.
     let c = counts config input words text (eqb-true (o .answer .number) 0 e) in
-    let all = tree-length v 0 none (narrow-tree-at (o .words) (o .text) (h .words) (length (o .words)) 0) tt (omega (arith, c .records, h .records)) in
+    let all = value-length v 0 none (narrow-value (o .words) (o .text) (h .words) (length (o .words)) 0) tt (omega (arith, c .records, h .records)) in
     rw (e, length-append) (omega (arith, first, all, c .records, c .bytes)))
     (λ e. rw (e, length-append) (omega (arith, first)))

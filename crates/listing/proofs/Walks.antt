@@ -1,5 +1,5 @@
 -- The walk of the writers over the records: enough steps are enough, and then the walk goes without them.
-use mathlib.Core.Path.{_≡_, refl, sym, ap, ap₂, _∙_}
+use mathlib.Core.Path.{_≡_, refl, sym, ap, _∙_}
 use mathlib.Core.Bool.{Bool, true, false, cond}
 use mathlib.Core.Option.{Option, none, some}
 use mathlib.Core.List.{List, [], _∷_, _++_, flatten}
@@ -11,13 +11,14 @@ use lib.ListN.{length, take}
 use lib.Seq.{take-nil}
 use Rattle.key.specs.Keys.{Key}
 use Rattle.row.specs.Row.{kindWord, textWord, textLengthWord, childWord, nextWord, mapKind, sequenceKind}
-use Rattle.reading.specs.Trees.{Tree, uninitialized, null, noValue, string, map, sequence, noEntries, entry, noElements, element}
 use Rattle.row.specs.Words.{recordCount, word, textPart}
-use Rattle.reading.specs.Buffers.{treeAt, entriesAt, elementsAt, keyAt}
-use Rattle.listing.specs.Lines.{ownLines, treeLines, entryLines, elementLines}
+use Rattle.reading.specs.Values.{Row, rowKey, Value, Forest, child}
+use Rattle.reading.specs.Trees.{Tree, uninitialized, null, noValue, string, map, sequence, plain}
+use Rattle.reading.specs.Buffers.{rowIn, valueWithin, forestWithin}
+use Rattle.listing.specs.Lines.{ownLines, treeLines}
 use Rattle.listing.specs.Bounded.{boundedValues}
-use Rattle.listing.specs.Walking.{keyShown, childless, recordLines, childLines, firstOfValue, firstOfSiblings}
-use Rattle.listing.proofs.ByKind.{lines-of-kind}
+use Rattle.listing.specs.Walking.{keyShown, childless, recordLines, forestLines, childLines, firstOfValue, firstOfSiblings}
+use Rattle.listing.proofs.ByKind.{hasChildren, lines-of-kind}
 
 -- The first n of two lists, one after the other.
 take-append : {A : Type 0} (n : ℕ) (xs ys : List A) → take n (xs ++ ys) ≡ take n xs ++ take (n - length (take n xs)) ys
@@ -28,11 +29,10 @@ take-append (suc n) (x ∷ xs) ys =
     let e : n - length (take n xs) ≡ suc n - suc (length (take n xs)) = omega arith in
     ap (λ t. x ∷ t) (take-append n xs ys ∙ ap (λ m. take n xs ++ take m ys) e)
 
--- The first n of a choice, and of two lists that agree so far.
-take-cond : {A : Type 0} (n : ℕ) (b c : Bool) (xs ys : List A) → take n (cond b xs (cond c ys [])) ≡ cond b (take n xs) (cond c (take n ys) [])
-take-cond n true c xs ys = refl
-take-cond n false true xs ys = refl
-take-cond n false false xs ys = take-nil n
+-- The first n of what may be there, and of two lists that agree so far.
+take-cond : {A : Type 0} (n : ℕ) (b : Bool) (xs : List A) → take n (cond b xs []) ≡ cond b (take n xs) []
+take-cond n true xs = refl
+take-cond n false xs = take-nil n
 
 take-both : {A : Type 0} (b : Bool) (n : ℕ) (xs xs′ ys ys′ : List A) → take n xs ≡ take n xs′
     → take (n - length (take n xs)) ys ≡ take (n - length (take n xs)) ys′ → take n (cond b [] (xs ++ ys)) ≡ take n (cond b [] (xs′ ++ ys′))
@@ -50,59 +50,58 @@ some-value null level key n = omega arith
 some-value noValue level key n = omega arith
 some-value uninitialized level key n = omega arith
 
+-- The lines of a forest that is empty, or has a first child.
+forest-lines : (keyed b : Bool) (i : ℕ) (row : Row) (v : Value) (later : Forest) (level : ℕ)
+    → forestLines keyed (cond b Forest.none (child i row v later)) level
+    ≡ cond b [] (treeLines (plain v) level (cond keyed (some (rowKey row)) none) ++ forestLines keyed later level)
+unfolding treeLines
+forest-lines true true i row v later level = refl
+forest-lines true false i row v later level = refl
+forest-lines false true i row v later level = refl
+forest-lines false false i row v later level = refl
+
 module _ (words text : List ℕ) where
-  -- The lines of the values below record i, by its kind.
+  -- The tree of the value at record i.
+  abbrev treeWithin : ℕ → ℕ → Tree
+  treeWithin steps i = plain (valueWithin steps words text i)
+
+  -- The lines of the children of record i.
   abbrev below : ℕ → ℕ → ℕ → List (List ℕ)
-  below steps i level =
-      cond (eqb (word words i kindWord) mapKind) (childLines true steps words text (word words i childWord) level)
-      (cond (eqb (word words i kindWord) sequenceKind) (childLines false steps words text (word words i childWord) level) [])
+  below steps i level = childLines (eqb (word words i kindWord) mapKind) steps words text (word words i childWord) level
 
   tree-more : (steps i level : ℕ) (key : Option Key)
-      → treeLines (treeAt (suc steps) words text i) level key ≡ ownLines level key (childless words text i) ∷ below steps i (level + 1)
+      → treeLines (treeWithin (suc steps) i) level key
+      ≡ ownLines level key (childless words text i) ∷ cond (hasChildren (word words i kindWord)) (below steps i (level + 1)) []
   tree-more steps i level key =
-      lines-of-kind (word words i kindWord) (textPart text (word words i textWord) (word words i textLengthWord)) (entriesAt steps words text (word words i childWord))
-      (elementsAt steps words text (word words i childWord)) level key
+      lines-of-kind (word words i kindWord) (word words i textWord) (textPart text (word words i textWord) (word words i textLengthWord))
+      (forestWithin steps (eqb (word words i kindWord) mapKind) words text (word words i childWord)) level key
 
-  below-same : (n g h i level : ℕ)
-      → ((keyed : Bool) → take n (childLines keyed g words text (word words i childWord) level) ≡ take n (childLines keyed h words text (word words i childWord) level))
-      → take n (below g i level) ≡ take n (below h i level)
-  below-same n g h i level e =
-      let b = eqb (word words i kindWord) mapKind in
-      let c = eqb (word words i kindWord) sequenceKind in
-      take-cond n b c (childLines true g words text (word words i childWord) level) (childLines false g words text (word words i childWord) level)
-      ∙ ap₂ (λ x y. cond b x (cond c y [])) (e true) (e false)
-      ∙ sym (take-cond n b c (childLines true h words text (word words i childWord) level) (childLines false h words text (word words i childWord) level))
+  -- The first values of a tree, by the first below it.
+  tree-first : (n g i level : ℕ) (key : Option Key) → take (suc n) (treeLines (treeWithin (suc g) i) level key)
+      ≡ ownLines level key (childless words text i) ∷ cond (hasChildren (word words i kindWord)) (take n (below g i (level + 1))) []
+  tree-first n g i level key =
+      ap (take (suc n)) (tree-more g i level key)
+      ∙ ap (λ t. ownLines level key (childless words text i) ∷ t) (take-cond n (hasChildren (word words i kindWord)) (below g i (level + 1)))
 
   child-more : (keyed : Bool) (steps i level : ℕ) → childLines keyed (suc steps) words text i level
-      ≡ cond (eqb i 0) [] (treeLines (treeAt steps words text i) level (keyShown keyed words text i) ++ childLines keyed steps words text (word words i nextWord) level)
-  unfolding treeLines
-  child-more true steps i level = go (eqb i 0)
-    where
-      go : (b : Bool) → entryLines (cond b noEntries (entry (keyAt words text i) (treeAt steps words text i) (entriesAt steps words text (word words i nextWord)))) level
-          ≡ cond b [] (treeLines (treeAt steps words text i) level (some (keyAt words text i)) ++ entryLines (entriesAt steps words text (word words i nextWord)) level)
-      go true = refl
-      go false = refl
-  child-more false steps i level = go (eqb i 0)
-    where
-      go : (b : Bool) → elementLines (cond b noElements (element (treeAt steps words text i) (elementsAt steps words text (word words i nextWord)))) level
-          ≡ cond b [] (treeLines (treeAt steps words text i) level none ++ elementLines (elementsAt steps words text (word words i nextWord)) level)
-      go true = refl
-      go false = refl
+      ≡ cond (eqb i 0) [] (treeLines (treeWithin steps i) level (keyShown keyed words text i) ++ childLines keyed steps words text (word words i nextWord) level)
+  child-more keyed steps i level =
+      forest-lines keyed (eqb i 0) i (rowIn keyed words text i) (valueWithin steps words text i) (forestWithin steps keyed words text (word words i nextWord)) level
 
   -- Two steps a value are enough.
   mutual
     pub tree-enough : (g h n i level : ℕ) (key : Option Key) → 2 * n ≤ g + 1 → 2 * n ≤ h + 1
-        → take n (treeLines (treeAt g words text i) level key) ≡ take n (treeLines (treeAt h words text i) level key)
+        → take n (treeLines (treeWithin g i) level key) ≡ take n (treeLines (treeWithin h i) level key)
     tree-enough zero h zero i level key p q = refl
     tree-enough zero h (suc n) i level key p q = absurd (omega arith)
     tree-enough (suc g) zero zero i level key p q = refl
     tree-enough (suc g) zero (suc n) i level key p q = absurd (omega arith)
     tree-enough (suc g) (suc h) zero i level key p q = refl
     tree-enough (suc g) (suc h) (suc n) i level key p q =
-        ap (take (suc n)) (tree-more g i level key)
-        ∙ ap (λ t. ownLines level key (childless words text i) ∷ t)
-        (below-same n g h i (level + 1) (λ keyed. child-enough g h n keyed (word words i childWord) (level + 1) (omega arith) (omega arith)))
-        ∙ sym (ap (take (suc n)) (tree-more h i level key))
+        tree-first n g i level key
+        ∙ ap (λ t. ownLines level key (childless words text i) ∷ cond (hasChildren (word words i kindWord)) t [])
+        (child-enough g h n (eqb (word words i kindWord) mapKind) (word words i childWord) (level + 1) (omega arith) (omega arith))
+        ∙ sym (tree-first n h i level key)
 
     child-enough : (g h n : ℕ) (keyed : Bool) (i level : ℕ) → 2 * n ≤ g → 2 * n ≤ h
         → take n (childLines keyed g words text i level) ≡ take n (childLines keyed h words text i level)
@@ -114,10 +113,10 @@ module _ (words text : List ℕ) where
     child-enough (suc g) (suc h) (suc n) keyed i level p q =
         let key = keyShown keyed words text i in
         let next = word words i nextWord in
-        let values = treeLines (treeAt g words text i) level key in
-        let some : 1 ≤ length (take (suc n) values) = some-value (treeAt g words text i) level key n in
+        let values = treeLines (treeWithin g i) level key in
+        let some : 1 ≤ length (take (suc n) values) = some-value (treeWithin g i) level key n in
         ap (take (suc n)) (child-more keyed g i level)
-        ∙ take-both (eqb i 0) (suc n) values (treeLines (treeAt h words text i) level key) (childLines keyed g words text next level)
+        ∙ take-both (eqb i 0) (suc n) values (treeLines (treeWithin h i) level key) (childLines keyed g words text next level)
         (childLines keyed h words text next level) (tree-enough g h (suc n) i level key (omega arith) (omega arith))
         (child-enough g h (suc n - length (take (suc n) values)) keyed next level (omega arith) (omega arith))
         ∙ sym (ap (take (suc n)) (child-more keyed h i level))
@@ -125,24 +124,21 @@ module _ (words text : List ℕ) where
   -- The first n values of the value at record i: itself, and the first n - 1 below it.
   value-first : (n i : ℕ) (keyed : Bool) (level : ℕ) → 0 < n → firstOfValue n words text i keyed level
       ≡ recordLines words text i keyed level
-      ∷ cond (eqb (word words i kindWord) mapKind) (firstOfSiblings (n - 1) words text (word words i childWord) true (level + 1))
-      (cond (eqb (word words i kindWord) sequenceKind) (firstOfSiblings (n - 1) words text (word words i childWord) false (level + 1)) [])
+      ∷ cond (hasChildren (word words i kindWord))
+      (firstOfSiblings (n - 1) words text (word words i childWord) (eqb (word words i kindWord) mapKind) (level + 1)) []
   unfolding firstOfValue firstOfSiblings
   value-first zero i keyed level h = absurd (omega arith)
   value-first (suc n) i keyed level h =
       let key = keyShown keyed words text i in
-      let own = recordLines words text i keyed level in
-      let b = eqb (word words i kindWord) mapKind in
-      let c = eqb (word words i kindWord) sequenceKind in
-      let lines : Bool → ℕ → List (List ℕ) = λ k steps. childLines k steps words text (word words i childWord) (level + 1) in
+      let k = word words i kindWord in
+      let own : List (List ℕ) → List (List ℕ) = λ t. recordLines words text i keyed level ∷ cond (hasChildren k) t [] in
       let g = suc (2 * n) in
       let e : 2 * suc n ≡ suc g = omega arith in
       let f : n ≡ suc n - 1 = omega arith in
-      ap (λ steps. take (suc n) (treeLines (treeAt steps words text i) level key)) e
-      ∙ ap (take (suc n)) (tree-more g i level key)
-      ∙ ap (λ t. own ∷ t) (below-same n g (2 * n) i (level + 1) (λ k. child-enough g (2 * n) n k (word words i childWord) (level + 1) (omega arith) (omega arith)))
-      ∙ ap (λ t. own ∷ t) (take-cond n b c (lines true (2 * n)) (lines false (2 * n)))
-      ∙ ap (λ m. own ∷ cond b (take m (lines true (2 * m))) (cond c (take m (lines false (2 * m))) [])) f
+      ap (λ steps. take (suc n) (treeLines (treeWithin steps i) level key)) e
+      ∙ tree-first n g i level key
+      ∙ ap own (child-enough g (2 * n) n (eqb k mapKind) (word words i childWord) (level + 1) (omega arith) (omega arith))
+      ∙ ap (λ m. own (take m (below (2 * m) i (level + 1)))) f
 
   -- By its kind: a Map, a Sequence, any other.
   module _ (n i : ℕ) (keyed : Bool) (level : ℕ) (some : 0 < n) {kind : ℕ} (at : kind ≡ word words i kindWord) where
@@ -170,10 +166,10 @@ module _ (words text : List ℕ) where
       let key = keyShown keyed words text i in
       let next = word words i nextWord in
       let g = suc (2 * n) in
-      let values = treeLines (treeAt g words text i) level key in
+      let values = treeLines (treeWithin g i) level key in
       let m = suc n - length (take (suc n) values) in
       let e : 2 * suc n ≡ suc g = omega arith in
-      let some : 1 ≤ length (take (suc n) values) = some-value (treeAt g words text i) level key n in
+      let some : 1 ≤ length (take (suc n) values) = some-value (treeWithin g i) level key n in
       ap (λ steps. take (suc n) (childLines keyed steps words text i level)) e
       ∙ ap (take (suc n)) (child-more keyed g i level)
       ∙ ap (λ b. take (suc n) (cond b [] (values ++ childLines keyed g words text next level))) (ne-eqb i 0 k)
@@ -188,7 +184,7 @@ module _ (words text : List ℕ) where
   no-siblings (suc n) i keyed level e =
       let g = suc (2 * n) in
       let f : 2 * suc n ≡ suc g = omega arith in
-      let values = treeLines (treeAt g words text i) level (keyShown keyed words text i) in
+      let values = treeLines (treeWithin g i) level (keyShown keyed words text i) in
       ap (λ steps. take (suc n) (childLines keyed steps words text i level)) f
       ∙ ap (take (suc n)) (child-more keyed g i level)
       ∙ ap (λ b. take (suc n) (cond b [] (values ++ childLines keyed g words text (word words i nextWord) level))) (eq-eqb i 0 e)

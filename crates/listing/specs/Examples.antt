@@ -6,7 +6,7 @@ use mathlib.Core.Path.{_≡_}
 use mathlib.Core.List.{List, [], _∷_, _++_, map, flatMap}
 use Rattle.config.specs.Defaults.{defaults}
 use Rattle.ascii.specs.Texts.{ascii}
-use Rattle.reading.specs.Tests.{before}
+use Rattle.reading.specs.Tests.{records, before}
 use Rattle.reading.specs.Reading.{reading}
 use Rattle.listing.specs.Listing.{listing}
 
@@ -51,5 +51,5 @@ ended lines = flatMap (λ l. ascii l ++ ascii "\n") lines
 -- Every example has its lines, where 6 records and 12 bytes of text are lent.
 abbrev pub ExamplesPass : Type 0
 ExamplesPass =
-    map (λ e. listing (reading defaults (ascii (e .input)) (before 48) (before 12))) examples
+    map (λ e. listing (reading defaults (ascii (e .input)) (before (records 6)) (before 12))) examples
     ≡ map (λ e. ended (e .lines)) examples

@@ -1,12 +1,8 @@
 // A value's own four lines.
-ghost use mathlib.Core.List.{[]};
-ghost use Rattle.ascii.specs.Texts.{ascii};
-ghost use Rattle.reading.specs.Trees.{noEntries, noElements};
 ghost use Rattle.row.specs.Row.{kindWord};
 ghost use Rattle.row.specs.Words.{word};
-ghost use Rattle.reading.specs.Buffers.{byKind};
-ghost use Rattle.listing.specs.Lines.{line, keyItem, kindName, textItem};
-ghost use Rattle.listing.specs.Walking.{keyShown, childless, recordLines};
+ghost use Rattle.listing.specs.Lines.{line, keyItem, textItem};
+ghost use Rattle.listing.specs.Walking.{keyShown, childless, kindShown, recordLines};
 ghost use Rattle.output.specs.Output.{page, Puts};
 use output::numbers;
 
@@ -31,7 +27,7 @@ fn write_key(words: &[u32], text: &[u8], n: u32, keyed: bool, out: &mut [u8], at
 
 // Writes the name of a kind.
 fn write_kind(kind: u32, out: &mut [u8], at: usize) -> usize
-    ensures { λ r. ⌜ Puts (ascii (kindName (byKind kind [] noEntries noElements)))
+    ensures { λ r. ⌜ Puts (kindShown kind)
         (page (now (out .entry)) at) (page (now (out .exit)) r) ⌝ }
 {
     if kind == row::MAP {
@@ -85,8 +81,7 @@ fn write_key_line(
 
 // Writes the line of a value's kind.
 fn write_kind_line(words: &[u32], n: u32, out: &mut [u8], at: usize) -> usize
-    ensures { λ r. ⌜ Puts (line "kind="
-        (ascii (kindName (byKind (word (now (words .entry)) n kindWord) [] noEntries noElements))))
+    ensures { λ r. ⌜ Puts (line "kind=" (kindShown (word (now (words .entry)) n kindWord)))
         (page (now (out .entry)) at) (page (now (out .exit)) r) ⌝ }
 {
     let item = output::write_bytes(b"kind=", out, at);

@@ -32,6 +32,9 @@ part-respond-to-start c =
 part-respond-to-end : tie.Need-part-respond-to-end
 part-respond-to-end c = search needs
 
+with-requires : tie.Need-with-requires
+with-requires c κs = search needs
+
 respond-to-requires : tie.Need-respond-to-requires
 respond-to-requires c κs = search needs
 
@@ -60,9 +63,10 @@ same-length-4 c = search needs
 returns-2 : tie.Need-returns-2
 returns-2 c =
     let at-respond-to = c .before .before .before .before .before .before in
-    let at-depth = at-respond-to .before .before .before .before .before .before in
+    let at-with = at-respond-to .before .before .before .before in
+    let at-depth = at-with .before .before .before in
     let at-parse-head = at-depth .before .before in
-    good-reply _ _ _ _ _ (at-parse-head .parse-head .ensures) _ _ (at-depth .depth .given .1) (at-respond-to .respond-to .ensures)
+    good-reply _ _ _ _ _ (at-parse-head .parse-head .ensures) (at-depth .depth .given .1) (at-with .with .ensures) (at-respond-to .respond-to .ensures)
 
 pub respond-spec : {M : Type 1} → statement M
 respond-spec =
@@ -76,6 +80,7 @@ respond-spec =
     sub-respond-to
     part-respond-to-start
     part-respond-to-end
+    with-requires
     respond-to-requires
     same-length
     returns
