@@ -66,7 +66,10 @@ textTests =
 
 abbrev pub TextTestsPass : Type 0
 TextTestsPass =
-    map (λ t. (textRead defaults (t .duplicates) (ascii (t .input)) (ascii (t .name)) (before (wordsOf 6)) (before 12)) .answer) textTests
+    map
+    (λ t.
+    (textRead defaults (t .duplicates) (ascii (t .input)) (ascii (t .name)) (before (wordsOf 6)) (before 12)) .answer)
+    textTests
     ≡ map (λ t. t .expects) textTests
 
 -- With the list's slice, of so many words.
@@ -112,6 +115,8 @@ abbrev pub ListTestsPass : Type 0
 ListTestsPass =
     map
     (λ t.
-    let o = listRead (t .config) (t .duplicates) (ascii (t .input)) (ascii (t .name)) (before (wordsOf 6)) (before 12) (before (t .size)) in
+    let o =
+    listRead (t .config) (t .duplicates) (ascii (t .input)) (ascii (t .name)) (before (wordsOf 6)) (before 12)
+    (before (t .size)) in
     (o .read .answer, o .list)) listTests
     ≡ map (λ t. t .expects) listTests

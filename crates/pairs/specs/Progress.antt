@@ -35,7 +35,8 @@ pub record Reads (config : Config) (input words text : List ℕ) (here : Here) (
   pub laid : List ℕ
   pub stands : Stands env words text here path tree laid
   pub onward : after config env input place (due path .command) (due path .next) tree (usedBy here laid) ≡ answer
-  pub covered : Gives (Covered place (due path .next)) Whatever (perform env (due path .command) tree (usedBy here laid))
+  pub covered :
+      Gives (Covered place (due path .next)) Whatever (perform env (due path .command) tree (usedBy here laid))
   pub records : here .records ≤ place + 1
   pub bytes : here .bytes ≤ place
   pub small : length input ≤ maxLen

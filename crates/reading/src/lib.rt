@@ -1,7 +1,7 @@
 // What a query string means: document 01's reading as definitions (specs/) and the theorems over them (proofs/). It has
 // no code but the struct of a reading's answer. The headline is specs/Reading; what is proved of it stands in
-// specs/Answers, Placed, TreeHeld, Counts, Shape, UniqueKeys, Space, Growth, Starred and Others, and of what growth
-// rules out in specs/Lost.
+// specs/Answers, Limits, Placed, TreeHeld, ReadBack, Counts, Shape, UniqueKeys, Space, Fitting, Joining, Growth,
+// Starred and Others, and of what growth rules out in specs/Lost.
 // Below it stand the settings (config), the key rule (key), decoding (decode), the refusals (refusals), a record's row
 // (row), bytes by name (ascii) and laws.
 

@@ -2,11 +2,12 @@
 use mathlib.Core.Path.{_≡_, refl, ap, _∙_}
 use mathlib.Core.Logic.{_≢_}
 use mathlib.Core.List.{List, [], _∷_}
-use Prim.Native.Nat.{ℕ, zero, suc, _≤_, _<_}
+use Prim.Native.Nat.{ℕ, zero, suc, _+_, _≤_, _<_}
 use native.Mathlib.Omega.{arith}
 use borrow.Author.Tests.{eq-eqb, ne-eqb}
 use lib.ListN.{length, getD}
-use Rattle.row.specs.Row.{recordWidth, childWord, nextWord}
+use Rattle.row.specs.Row.{recordWidth, kindWord, keyKindWord, keyWord, keyLengthWord, textWord, textLengthWord}
+use Rattle.row.specs.Row.{childWord, nextWord}
 use Rattle.records.specs.declared.store.Record.{Record}
 use Rattle.row.specs.Words.{word}
 use Rattle.records.specs.Records.{keyWordsAt, valueAt, recordAt}
@@ -27,18 +28,45 @@ indicator-other m n h = simp (ne-eqb m n h)
 abbrev pub row : Record → ℕ → ℕ → List ℕ
 row r child next = r .value .kind ∷ r .key .kind ∷ r .key .offset ∷ r .key .len ∷ r .value .offset ∷ r .value .len ∷ child ∷ next ∷ []
 
+-- The words of record n from word w on are those of a list.
+abbrev pub WordsFrom : List ℕ → ℕ → ℕ → List ℕ → Type 0
+WordsFrom ws n w [] = Unit {0}
+WordsFrom ws n w (x ∷ xs) = (word ws n w ≡ x) × WordsFrom ws n (w + 1) xs
+
+from-get : (ws : List ℕ) (n w : ℕ) (xs : List ℕ) → WordsFrom ws n w xs → (i : ℕ) → i < length xs
+    → word ws n (w + i) ≡ getD xs i 0
+from-get ws n w [] k i l = absurd (omega arith)
+from-get ws n w (x ∷ xs) k zero l =
+    let e : w + 0 ≡ w = omega arith in
+    ap (word ws n) e ∙ k .0
+from-get ws n w (x ∷ xs) k (suc i) l =
+    let e : w + suc i ≡ w + 1 + i = omega arith in
+    ap (word ws n) e ∙ from-get ws n (w + 1) xs (k .1) i (omega arith)
+
 pub row-words : {ws : List ℕ} {n : ℕ} {r : Record} {child next : ℕ} → Row ws n r child next → (w : ℕ) → w < recordWidth
     → word ws n w ≡ getD (row r child next) w 0
 unfolding keyWordsAt valueAt
-row-words k zero l = ap (λ (r : Record). r .value .kind) (k .fixed)
-row-words k (suc zero) l = ap (λ (r : Record). r .key .kind) (k .fixed)
-row-words k (suc (suc zero)) l = ap (λ (r : Record). r .key .offset) (k .fixed)
-row-words k (suc (suc (suc zero))) l = ap (λ (r : Record). r .key .len) (k .fixed)
-row-words k (suc (suc (suc (suc zero)))) l = ap (λ (r : Record). r .value .offset) (k .fixed)
-row-words k (suc (suc (suc (suc (suc zero))))) l = ap (λ (r : Record). r .value .len) (k .fixed)
-row-words k (suc (suc (suc (suc (suc (suc zero)))))) l = k .child-is
-row-words k (suc (suc (suc (suc (suc (suc (suc zero))))))) l = k .next-is
-row-words k (suc (suc (suc (suc (suc (suc (suc (suc w)))))))) l = absurd (omega arith)
+row-words {ws} {n} {r} {child} {next} k w l =
+    let e : w ≡ kindWord + w = omega arith in
+    ap (word ws n) e ∙ from-get ws n kindWord (row r child next) (
+      ap (λ (r : Record). r .value .kind) (k .fixed),
+      (
+        ap (λ (r : Record). r .key .kind) (k .fixed),
+        (
+          ap (λ (r : Record). r .key .offset) (k .fixed),
+          (
+            ap (λ (r : Record). r .key .len) (k .fixed),
+            (
+              ap (λ (r : Record). r .value .offset) (k .fixed),
+              (
+                ap (λ (r : Record). r .value .len) (k .fixed),
+                (k .child-is, (k .next-is, tt)),
+              ),
+            ),
+          ),
+        ),
+      ),
+    ) w l
 
 -- A word that is no link.
 abbrev pub Fixed : ℕ → Type 0
@@ -47,7 +75,14 @@ Fixed w = (w < recordWidth) × (w ≢ childWord) × (w ≢ nextWord)
 module _ (ws ws' : List ℕ) where
   pub record-kept : (n : ℕ) → ((w : ℕ) → Fixed w → word ws' n w ≡ word ws n w) → recordAt ws' n ≡ recordAt ws n
   unfolding keyWordsAt valueAt
-  record-kept n e = rw (e 0 (omega arith), e 1 (omega arith), e 2 (omega arith), e 3 (omega arith), e 4 (omega arith), e 5 (omega arith))
+  record-kept n e = rw (
+    e kindWord (omega arith),
+    e keyKindWord (omega arith),
+    e keyWord (omega arith),
+    e keyLengthWord (omega arith),
+    e textWord (omega arith),
+    e textLengthWord (omega arith),
+  )
 
   pub row-kept : {n : ℕ} {r : Record} {child next : ℕ} → ((w : ℕ) → w < recordWidth → word ws' n w ≡ word ws n w)
       → Row ws n r child next → Row ws' n r child next

@@ -4,7 +4,7 @@ use mathlib.Core.List.{List}
 use Prim.Native.Nat.{ℕ, _+_, _*_, _≤_}
 use native.Mathlib.Omega.{arith}
 use lib.ListN.{replicate, length-replicate}
-use Rattle.row.specs.Row.{recordWidth, uninitializedKind}
+use Rattle.row.specs.Row.{recordWidth, keyWord, keyLengthWord, uninitializedKind}
 use Rattle.laws.proofs.Lists.{zeros}
 use Rattle.row.specs.Words.{word}
 use Rattle.records.specs.Records.{keyWordsAt, valueAt}
@@ -28,5 +28,5 @@ start-holds len text l =
       rising = ((λ m g. absurd (omega arith)), tt, tt);
       unused = λ m w g i. word-zero len m w;
       room = rw length-replicate (omega arith);
-      keys = λ n g i. omega (arith, word-zero len n 2, word-zero len n 3);
+      keys = λ n g i. omega (arith, word-zero len n keyWord, word-zero len n keyLengthWord);
     }

@@ -1,11 +1,14 @@
 -- Document 01, 'Refused readings, in checking order' and 'Field reads': the number of each refusal.
 use Prim.Native.Nat.{ℕ}
 use Rattle.refusals.specs.declared.Refusal.{Refusal}
-use Rattle.refusals.specs.declared.Refusal.the-variants.{TooDeep, TooLong, NoRecord, EndAfterOpening, EndBeforeClosing}
-use Rattle.refusals.specs.declared.Refusal.the-variants.{SequenceOnMap, SequenceOnSingle, MapOnSequence, MapOnString, MapOnNull}
+use Rattle.refusals.specs.declared.Refusal.the-variants.{TooDeep, TooLong, NoRecord}
+use Rattle.refusals.specs.declared.Refusal.the-variants.{EndAfterOpening, EndBeforeClosing}
+use Rattle.refusals.specs.declared.Refusal.the-variants.{SequenceOnMap, SequenceOnSingle}
+use Rattle.refusals.specs.declared.Refusal.the-variants.{MapOnSequence, MapOnString, MapOnNull}
 use Rattle.refusals.specs.declared.Refusal.the-variants.{ByteAfterKey, OpeningAfterBrackets, ByteAfterBrackets}
 use Rattle.refusals.specs.declared.Refusal.the-variants.{TooFewRecords, TooLittleText}
-use Rattle.refusals.specs.declared.Refusal.the-variants.{WrongRoot, NoSuchField, WrongKind, SeveralValues, MissingIndex, NotUtf8, ShortSlice}
+use Rattle.refusals.specs.declared.Refusal.the-variants.{WrongRoot, NoSuchField, WrongKind}
+use Rattle.refusals.specs.declared.Refusal.the-variants.{SeveralValues, MissingIndex, NotUtf8, ShortSlice}
 
 abbrev pub code : Refusal → ℕ
 -- "Depth above 64", "Ticket above 65,535 bytes", "Fewer than 8 words lent"

@@ -6,7 +6,8 @@ ghost use Rattle.refusals.specs.Codes.{code};
 
 // Document 01, 'Refused readings, in checking order' and 'Field reads', in the order of their numbers.
 pub enum Refusal {
-    // 1 to 3, before the first byte: the depth above its limit, the input above its, fewer words lent than a record has.
+    // 1 to 3, before the first byte: the depth above its limit, the input above its, fewer words lent than a record
+    // has.
     TooDeep,
     TooLong,
     NoRecord,

@@ -1,4 +1,5 @@
--- Document 01, 'Settings and the lent buffers': a record's row, each number of it named once. The code has the same names as constants.
+-- Document 01, 'Settings and the lent buffers': a record's row, each number of it named once. The code has the same
+-- names as constants.
 use Prim.Native.Nat.{ℕ}
 
 -- "A record is 8 words"

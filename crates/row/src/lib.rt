@@ -1,5 +1,6 @@
-// A record's row: how wide it is, in which word a thing stands, and which numbers stand for kinds; and the lent words and text by it.
-// Its numbers are specs/Row, and `word` (specs/Words) is a word of a record. All that reads or writes a record stands on it.
+// A record's row: how wide it is, in which word a thing stands, and which numbers stand for kinds; and the lent words
+// and text by it. Its numbers are specs/Row, and `word` (specs/Words) is a word of a record. All that reads or writes a
+// record stands on it.
 // Nothing stands below it.
 ghost use mathlib.Core.Path.{_≡_};
 ghost use Prim.Native.Nat.{_<_};

@@ -20,14 +20,16 @@ use Rattle.tree.specs.Stored.{usedBy, Stands}
 -- free: `parse` clears both.
 pub data After (env : Environment) (ws text : List ℕ) (path : List Key) : Performed → Made Node → Type 0 where
   stood :
-      {here : Here} {tree : Node} {used : Used} → used .records ≡ here .records → Stands env ws text here path tree (used .text)
+      {here : Here} {tree : Node} {used : Used}
+      → used .records ≡ here .records → Stands env ws text here path tree (used .text)
       → After env ws text path (MadeHere here) (made tree used)
   stopped : {x : Refusal} → After env ws text path (Refused x) (refused x)
 
 -- A function does as a rule at a path: whatever tree stands in the words and the text and whatever path leads to the record, the words, the
 -- text and the answer are as the rule makes them, and `to path` leads to the record that is answered.
 abbrev pub Does :
-    List ℕ → List ℕ → List ℕ → List ℕ → Here → (Environment → List Key → Rule Node) → (List Key → List Key) → Performed → Type 0
+    List ℕ → List ℕ → List ℕ → List ℕ → Here → (Environment → List Key → Rule Node) → (List Key → List Key) → Performed
+    → Type 0
 Does ws text ws' text' here rule to r =
     (env : Environment) (path : List Key) (tree : Node) (laid : List ℕ) → Stands env ws text here path tree laid
     → After env ws' text' (to path) r (rule env path tree (usedBy here laid))

@@ -27,9 +27,9 @@ pub record Stores (ws text : List ℕ) (used filled : ℕ) (tree : Node) (laid :
   pub full : text ≡ laid ++ replicate (length text - length laid) 0
   pub fill : filled ≡ length laid
 
--- The path leads to record n in the tree ("`&mut ParsedValue` becomes a record number"; in the definitions it is a path). The row and the
--- value there stand in a tree that is `back` of them. `back` of another value with that row is the tree with that value in its place, and
--- that is what a rule at the path changes.
+-- The path leads to record n in the tree ("`&mut ParsedValue` becomes a record number"; in the definitions it is a
+-- path). The row and the value there stand in a tree that is `back` of them. `back` of another value with that row is
+-- the tree with that value in its place, and that is what a rule at the path changes.
 pub record Leads (path : List Key) (tree : Node) (n : ℕ) : Type 0 where
   pub around : Context
   pub rest : Nodes
@@ -53,7 +53,8 @@ abbrev pub usedBy : Here → List ℕ → Used
 usedBy here laid = record { records = here .records; text = laid }
 
 -- A tree stands in what is lent, with these counts, and the path leads to the record that a command is for.
-pub record Stands (env : Environment) (ws text : List ℕ) (here : Here) (path : List Key) (tree : Node) (laid : List ℕ) : Type 0 where
+pub record Stands
+    (env : Environment) (ws text : List ℕ) (here : Here) (path : List Key) (tree : Node) (laid : List ℕ) : Type 0 where
   pub lent-is : env .lent ≡ lentBy ws text
   pub stores : Stores ws text (here .records) (here .bytes) tree laid
   pub leads : Leads path tree (here .node)
