@@ -11,7 +11,7 @@ use crate::field;
 use crate::field::FieldAt;
 use crate::text;
 use crate::text::TextRead;
-use records::clearing::clear_words;
+use clearing::clear_words;
 use refusals::Refusal;
 
 // The number of elements, or a refusal.

@@ -1,7 +1,7 @@
 -- The reading of a whole input: what it answers, and what it leaves in the lent buffers. Document 01, 'Settings and the
 -- lent buffers', 'The root' (an empty ticket) and 'Refused readings'. Public contracts equate their results with
 -- `reading`.
-use Prim.Native.Nat.{ℕ, _*_, _-_, _/_}
+use Prim.Native.Nat.{ℕ, _*_, _-_}
 use mathlib.Core.Bool.{cond}
 use mathlib.Core.List.{List, [], _∷_, _++_}
 use lib.Dec.{ltb}
@@ -9,6 +9,7 @@ use lib.ListN.{length, replicate}
 use Rattle.config.specs.declared.Config.{Config}
 use Rattle.config.specs.Limits.{maxDepth, maxLen}
 use Rattle.row.specs.Row.{recordWidth}
+use Rattle.row.specs.Words.{recordCount}
 use Rattle.reading.specs.declared.Reading.{Reading}
 use Rattle.reading.specs.Values.{bare, Value, uninitialized, noValue, Node, at}
 use Rattle.refusals.specs.declared.Refusal.{Refusal}
@@ -35,9 +36,9 @@ accepts records bytes = record { number = 0; place = 0; records = records; bytes
 abbrev pub refuses : Refusal → ℕ → Reading
 refuses x place = record { number = code x; place = place; records = 0; bytes = 0 }
 
--- "A record is 8 words; spare words at the end make no record."
+-- What is lent: as many records as the words make, and the bytes of the text.
 abbrev pub lentBy : List ℕ → List ℕ → Lent
-lentBy words text = record { records = length words / recordWidth; bytes = length text }
+lentBy words text = record { records = recordCount words; bytes = length text }
 
 -- A tree that is the root alone, of this value.
 abbrev pub alone : Value → Node

@@ -4,7 +4,6 @@
 // proofs/ carry over each of those functions.
 // Below it stand a record's row (row), decoding (decode), the keys and their order (key), and laws.
 pub mod adding; // a value added at a record
-pub mod clearing; // slices made zero
 pub mod keys; // keys compared
 pub mod siblings; // lists of siblings: a child found, a child put in
 pub mod store; // a record's key and value

@@ -1,4 +1,5 @@
-// Slices made zero: a reading's before it starts and after a refusal, and that of a list.
+// Lent slices made zero: a reading's before it starts and after a refusal, and that of a list.
+// Below it stand laws.
 ghost use mathlib.Core.Path.{_≡_};
 ghost use lib.ListN.{length, replicate};
 

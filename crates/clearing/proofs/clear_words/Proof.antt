@@ -3,8 +3,8 @@ use Prim.Native.Nat.{_-_}
 use native.Mathlib.Omega.{arith}
 use lib.ListN.{length, length-set}
 use Rattle.laws.proofs.Lists.{Clearing, clearing-start, clearing-more, clearing-done}
-use Rattle.records.proofs.clearing.clear_words.Statement.{statement}
-use Rattle.records.proofs.clearing.clear_words.Tie as tie
+use Rattle.clearing.proofs.clear_words.Statement.{statement}
+use Rattle.clearing.proofs.clear_words.Tie as tie
 
 abbrev Inv-loop : tie.InvT-loop
 Inv-loop words₀ i₀ words i = Clearing words₀ words i

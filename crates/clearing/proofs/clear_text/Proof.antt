@@ -2,8 +2,8 @@ use Prim.Native.Nat.{_-_}
 use native.Mathlib.Omega.{arith}
 use lib.ListN.{length, length-set}
 use Rattle.laws.proofs.Lists.{Clearing, clearing-start, clearing-more, clearing-done}
-use Rattle.records.proofs.clearing.clear_text.Statement.{statement}
-use Rattle.records.proofs.clearing.clear_text.Tie as tie
+use Rattle.clearing.proofs.clear_text.Statement.{statement}
+use Rattle.clearing.proofs.clear_text.Tie as tie
 
 abbrev Inv-loop : tie.InvT-loop
 Inv-loop text₀ i₀ text i = Clearing text₀ text i
