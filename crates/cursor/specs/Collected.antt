@@ -1,5 +1,5 @@
--- Document 01, 'A key (`collect_key`)' and 'A value (`collect_value`)': what is collected of a segment. The code answers a String by the
--- bounds of its raw segment.
+-- Document 01, 'A key (`collect_key`)' and 'A value (`collect_value`)': what is collected of a segment. The code
+-- answers a String by the bounds of its raw segment.
 use Prim.Native.Nat.{ℕ, _≤_}
 use mathlib.Core.Path.{_≡_}
 use mathlib.Core.Option.{Option}
@@ -64,7 +64,8 @@ pub record CollectedIs (config : Config) (input : List ℕ) (start end : ℕ) (f
   pub is : collectedKey input found ≡ collected config (segment input start end)
   pub bounds : CollectedBounds input found
 
--- What `collect_value` answers of the place where a value starts. "Bytes up to `&` or end. Empty is Null, else a decoded String."
+-- What `collect_value` answers of the place where a value starts. "Bytes up to `&` or end. Empty is Null, else a
+-- decoded String."
 pub record ValueIs (config : Config) (input : List ℕ) (place : ℕ) (found : CollectedValue) : Type 0 where
   pub end : ℕ
   pub symbol : Option Symbol

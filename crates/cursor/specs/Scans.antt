@@ -1,4 +1,5 @@
--- Scans: takings up to one that ends them. Document 01, 'A value', 'The root' and 'Inside a bracket': what ends a segment.
+-- Scans: takings up to one that ends them. Document 01, 'A value', 'The root' and 'Inside a bracket': what ends a
+-- segment.
 use Prim.Native.Nat.{ℕ}
 use mathlib.Core.Path.{_≡_}
 use mathlib.Core.Bool.{Bool, true, false}
@@ -39,16 +40,19 @@ stops until symbol = stopsAt (stopsOf until) symbol
 -- Takings from one place to another, none of which ends the scan.
 pub data Passed (until : Until) (config : Config) (input : List ℕ) (place : ℕ) : ℕ → Type 0 where
   here : Passed until config input place place
-  more : {i j : ℕ} {symbol : Symbol} → Passed until config input place i → Takes config input i symbol j → stops until (some symbol) ≡ false
+  more : {i j : ℕ} {symbol : Symbol} → Passed until config input place i → Takes config input i symbol j
+      → stops until (some symbol) ≡ false
       → Passed until config input place j
 
 -- A scan from a place: it passes on to `end`, and the taking there, which moves the place to place′, ends it.
-pub record Scan (until : Until) (config : Config) (input : List ℕ) (place end : ℕ) (symbol : Option Symbol) (place′ : ℕ) : Type 0 where
+pub record Scan (until : Until) (config : Config) (input : List ℕ) (place end : ℕ)
+    (symbol : Option Symbol) (place′ : ℕ) : Type 0 where
   pub passed : Passed until config input place end
   pub took : Took config input end symbol place′
   pub stop : stops until symbol ≡ true
 
 -- What `take_until` answers.
 pub record Scanned (until : Until) (config : Config) (input : List ℕ) (cursor : Cursor) (taken : Taken) : Type 0 where
-  pub scan : Scan until config input (cursor .place) (taken .cursor .end) (yielded (taken .symbol)) (taken .cursor .place)
+  pub scan : Scan until config input (cursor .place) (taken .cursor .end) (yielded (taken .symbol))
+      (taken .cursor .place)
   pub start : taken .cursor .start ≡ cursor .start

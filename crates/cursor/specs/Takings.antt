@@ -1,4 +1,5 @@
--- Document 01, 'Taking a byte (`next`)': one taking at a place, against the list of the input's takings (reading's specs/Taking).
+-- Document 01, 'Taking a byte (`next`)': one taking at a place, against the list of the input's takings (reading's
+-- specs/Taking).
 use Prim.Native.Nat.{ℕ, _+_, _≤_, _<_}
 use mathlib.Core.Path.{_≡_}
 use mathlib.Core.Bool.{Bool, cond}
@@ -8,7 +9,8 @@ use lib.Dec.{eqb}
 use lib.ListN.{length, drop}
 use Rattle.config.specs.declared.Config.{Config}
 use Rattle.reading.specs.Taking as taking
-use Rattle.reading.specs.Taking.{ampersand, equals, opening, closing, other, opens, closes, neither, escape, token, tokens}
+use Rattle.reading.specs.Taking.{ampersand, equals, opening, closing, other, opens, closes, neither}
+use Rattle.reading.specs.Taking.{escape, token, tokens}
 use Rattle.cursor.specs.declared.taking.Symbol.{Symbol}
 use Rattle.cursor.specs.declared.taking.Symbol.the-variants.{Ampersand, Equals, Opening, Closing, Other, End}
 use Rattle.cursor.specs.declared.taking.Escape.{Escape}
@@ -55,7 +57,8 @@ escapeAhead (b ∷ c ∷ d ∷ s) = escape b c d
 abbrev pub escapeIn : Config → List ℕ → taking.Escape
 escapeIn config s = cond (config .form) (escapeAhead s) neither
 
--- A taking at a place that yields a symbol and moves the place to place′. Its raw bytes, a first and the others, are those in between.
+-- A taking at a place that yields a symbol and moves the place to place′. Its raw bytes, a first and the others, are
+-- those in between.
 pub record Takes (config : Config) (input : List ℕ) (place : ℕ) (symbol : taking.Symbol) (place′ : ℕ) : Type 0 where
   pub on : place < place′
   pub within : place′ ≤ length input
@@ -74,9 +77,11 @@ abbrev pub Took : Config → List ℕ → ℕ → Option taking.Symbol → ℕ �
 Took config input place (some symbol) place′ = Takes config input place symbol place′
 Took config input place none place′ = TakesEnd input place place′
 
--- A cursor after a taking that moves the place to place′. "A raw segment runs from its start to the place before the last taking."
+-- A cursor after a taking that moves the place to place′. "A raw segment runs from its start to the place before the
+-- last taking."
 abbrev pub advanced : Symbol → Cursor → ℕ → Taken
-advanced symbol cursor place′ = record { symbol = symbol; cursor = record { place = place′; start = cursor .start; end = cursor .place } }
+advanced symbol cursor place′ =
+    record { symbol = symbol; cursor = record { place = place′; start = cursor .start; end = cursor .place } }
 
 -- What a taking answers, and the cursor after it.
 pub record Next (config : Config) (input : List ℕ) (cursor : Cursor) (taken : Taken) : Type 0 where

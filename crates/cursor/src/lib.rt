@@ -1,5 +1,6 @@
-// Scanning the input: the source's `next`, `collect_key` and `collect_value` (src/de/parse.rs). `next` advances the cursor that its caller
-// lends; its one caller, `take`, lends its own copy, so that from there on a cursor goes in and comes back by value.
+// Scanning the input: the source's `next`, `collect_key` and `collect_value` (src/de/parse.rs). `next` advances the
+// cursor that its caller lends; its one caller, `take`, lends its own copy, so that from there on a cursor goes in and
+// comes back by value.
 // What they answer is in specs/Takings, specs/Scans and specs/Collected; specs/From ties it to the reading.
 // Below it stand what an input means (reading), the key rule (key), decoding (decode), the settings (config) and laws.
 mod collecting;

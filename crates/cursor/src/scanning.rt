@@ -10,8 +10,8 @@ use crate::taking::Taken;
 use crate::taking::take;
 use config::Config;
 
-// What is scanned: a value, a bracket's key below the depth, which a `]` ends, a key at the depth, or a root key, which a `[` ends too
-// where brackets nest.
+// What is scanned: a value, a bracket's key below the depth, which a `]` ends, a key at the depth, or a root key,
+// which a `[` ends too where brackets nest.
 pub enum Until {
     Value,
     Closing,

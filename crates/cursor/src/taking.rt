@@ -7,7 +7,8 @@ ghost use Rattle.reading.specs.Taking.{symbolOf, escape};
 ghost use Rattle.cursor.specs.Takings.{yielded, number, sameSymbol, escapeOf, escapeIn, advanced, Next};
 use config::Config;
 
-// Document 01's "place", the number of bytes taken, and the bounds of the raw segment that is being read (`index` and `acc` in the source).
+// Document 01's "place", the number of bytes taken, and the bounds of the raw segment that is being read (`index` and
+// `acc` in the source).
 pub struct Cursor {
     pub place: usize,
     pub start: usize,
@@ -146,7 +147,8 @@ fn step(input: &[u8], config: Config, cursor: Cursor) -> Taken
 // A taking that advances the cursor that its caller lends: `step`'s cursor is stored in its place.
 pub fn next(cursor: &mut Cursor, input: &[u8], config: Config) -> Symbol
     requires { ⌜ now cursor .place ≤ length (now input) ⌝ }
-    ensures { λ r. ⌜ Next config (now (input .entry)) (now (cursor .entry)) (record { symbol = r; cursor = now (cursor .exit) }) ⌝ }
+    ensures { λ r. ⌜ Next config (now (input .entry)) (now (cursor .entry))
+        (record { symbol = r; cursor = now (cursor .exit) }) ⌝ }
 {
     let taken = step(input, config, *cursor);
     *cursor = taken.cursor;

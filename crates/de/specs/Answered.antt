@@ -1,5 +1,5 @@
--- Document 01, 'Field reads': "offset and length in text". Every text that is answered lies in the used text and is UTF-8. Proved in
--- proofs/Answered.
+-- Document 01, 'Field reads': "offset and length in text". Every text that is answered lies in the used text and is
+-- UTF-8. Proved in proofs/Answered.
 use Prim.Native.Nat.{ℕ, _+_, _*_, _<_, _≤_}
 use mathlib.Core.Path.{_≡_}
 use mathlib.Core.List.{List}

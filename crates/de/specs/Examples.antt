@@ -1,5 +1,5 @@
--- Field reads with what document 01 says of each, gathered as two lists and decided together (proofs/Examples). Lent are 6 records and 12 bytes of
--- text; before, every element is 7.
+-- Field reads with what document 01 says of each, gathered as two lists and decided together (proofs/Examples). Lent
+-- are 6 records and 12 bytes of text; before, every element is 7.
 use Prim.Native.Nat.{ℕ}
 use Prim.Native.String.{String}
 use mathlib.Core.Path.{_≡_}
@@ -29,7 +29,8 @@ pub record TextTest : Type 0 where
   pub expects : FieldRead
 
 abbrev pub textTest : DuplicateKeyBehavior → String → String → FieldRead → TextTest
-textTest duplicates input name expects = record { duplicates = duplicates; input = input; name = name; expects = expects }
+textTest duplicates input name expects =
+    record { duplicates = duplicates; input = input; name = name; expects = expects }
 
 abbrev pub textTests : List TextTest
 textTests =
@@ -83,7 +84,14 @@ pub record ListTest : Type 0 where
 
 abbrev pub listTest : DuplicateKeyBehavior → String → String → ℕ → FieldRead → List ℕ → ListTest
 listTest duplicates input name size expects list =
-    record { config = defaults; duplicates = duplicates; input = input; name = name; size = size; expects = (expects, list) }
+    record {
+      config = defaults;
+      duplicates = duplicates;
+      input = input;
+      name = name;
+      size = size;
+      expects = (expects, list);
+    }
 
 abbrev pub listTests : List ListTest
 listTests =
@@ -108,7 +116,14 @@ listTests =
     listTest TakeLast "&" "b" 2 (answer 16 0 1 0 0 0) (0 ∷ 0 ∷ []) ∷
     -- the reading's refusals, and the slice untouched under 1 to 3
     listTest TakeLast "a[" "a" 2 (answer 4 3 0 0 0 0) (0 ∷ 0 ∷ []) ∷
-    record { config = atDepth 65; duplicates = TakeLast; input = "a"; name = "a"; size = 2; expects = (answer 1 0 0 0 0 0, before 2) } ∷
+    record {
+      config = atDepth 65;
+      duplicates = TakeLast;
+      input = "a";
+      name = "a";
+      size = 2;
+      expects = (answer 1 0 0 0 0 0, before 2);
+    } ∷
     []
 
 abbrev pub ListTestsPass : Type 0

@@ -3,7 +3,8 @@ use Prim.Native.Nat.{ℕ}
 use mathlib.Core.Bool.{Bool, true, false, cond}
 use mathlib.Core.List.{List, [], _∷_}
 use lib.Dec.{eqb}
-use Rattle.reading.specs.Values.{Label, unkeyed, intKey, stringKey, Value, uninitialized, null, noValue, string, map, sequence, Forest, none, child}
+use Rattle.reading.specs.Values.{Label, unkeyed, intKey, stringKey, Value, Forest, none, child}
+use Rattle.reading.specs.Values.{uninitialized, null, noValue, string, map, sequence}
 use Rattle.refusals.specs.declared.Refusal.{Refusal}
 use Rattle.refusals.specs.declared.Refusal.the-variants.{WrongRoot, NoSuchField}
 
@@ -29,7 +30,8 @@ abbrev pub named : List ℕ → Forest → Field
 named name none = refused NoSuchField
 named name (child number row value later) = cond (isNamed name (row .label)) (found value) (named name later)
 
--- "A NoValue or Null root has no fields; a String root has the empty name only"; 16 is "root Sequence or Uninitialized", 17 "no such field".
+-- "A NoValue or Null root has no fields; a String root has the empty name only"; 16 is "root Sequence or
+-- Uninitialized", 17 "no such field".
 abbrev pub rootField : List ℕ → Value → Field
 rootField name uninitialized = refused WrongRoot
 rootField name null = refused NoSuchField

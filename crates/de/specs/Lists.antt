@@ -23,7 +23,8 @@ prepend (Text o n) (listed count words) = listed (suc count) (o ∷ n ∷ words)
 prepend (Text o n) (refused x) = refused x
 prepend (Refused x) later = refused x
 
--- Whether the element of index i may have this key: a Sequence's has none; a Map's is "in order from 0". A String is no index.
+-- Whether the element of index i may have this key: a Sequence's has none; a Map's is "in order from 0". A String is
+-- no index.
 abbrev pub isNext : ℕ → Label → Bool
 isNext i unkeyed = true
 isNext i (intKey a) = eqb a i
@@ -46,7 +47,8 @@ childCount (child number row value later) = suc (childCount later)
 
 -- "22 slice below two words an element; then at each element's turn"
 abbrev pub elements : DuplicateKeyBehavior → ℕ → Forest → Listed
-elements duplicates size children = cond (ltb size (2 * childCount children)) (refused ShortSlice) (inTurn duplicates 0 children)
+elements duplicates size children =
+    cond (ltb size (2 * childCount children)) (refused ShortSlice) (inTurn duplicates 0 children)
 
 abbrev pub isIntKey : Label → Bool
 isIntKey unkeyed = false
@@ -58,8 +60,8 @@ abbrev pub intKeys : Forest → Bool
 intKeys none = true
 intKeys (child number row value later) = cond (isIntKey (row .label)) (intKeys later) false
 
--- "Null or NoValue, none; String, one; Sequence, all; Map of Int keys only", into a slice of so many words. (The record number and the key of
--- the one element that a String is are not looked at.)
+-- "Null or NoValue, none; String, one; Sequence, all; Map of Int keys only", into a slice of so many words. (The
+-- record number and the key of the one element that a String is are not looked at.)
 abbrev pub listOf : DuplicateKeyBehavior → ℕ → Value → Listed
 listOf duplicates size uninitialized = refused WrongKind
 listOf duplicates size null = listed 0 []

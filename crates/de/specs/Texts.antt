@@ -9,8 +9,8 @@ use Rattle.refusals.specs.declared.Refusal.the-variants.{WrongKind, SeveralValu
 use Rattle.de.specs.declared.text.TextRead.{TextRead}
 use Rattle.de.specs.declared.text.TextRead.the-variants.{Text, Refused}
 
--- A value that is no Sequence: "String, offset and length in text; Null or NoValue, empty (0, 0)"; 18 for another kind, 21 for bytes that
--- are not UTF-8.
+-- A value that is no Sequence: "String, offset and length in text; Null or NoValue, empty (0, 0)"; 18 for another
+-- kind, 21 for bytes that are not UTF-8.
 abbrev pub singleText : Value → TextRead
 singleText uninitialized = Refused WrongKind
 singleText null = Text 0 0

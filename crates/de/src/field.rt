@@ -49,7 +49,8 @@ fn is_named(words: &[u32], text: &[u8], n: u32, name: &[u8]) -> bool
 // The child of the root that has the name.
 fn find_named(words: &[u32], text: &[u8], name: &[u8]) -> FieldAt
     requires { ⌜ Readable (now words) (now text) ⌝ ∗ ⌜ 0 < recordCount (now words) ⌝ }
-    ensures { λ r. ⌜ r ≡ namedAt (now (words .entry)) (now (text .entry)) (now (name .entry)) (children (now (words .entry)) 0) ⌝ }
+    ensures { λ r. ⌜ r ≡ namedAt (now (words .entry)) (now (text .entry)) (now (name .entry))
+        (children (now (words .entry)) 0) ⌝ }
 {
     let mut cur = row::get_word(words, 0, row::CHILD);
     while cur != 0 {
@@ -61,8 +62,8 @@ fn find_named(words: &[u32], text: &[u8], name: &[u8]) -> FieldAt
     FieldAt::Refused(Refusal::NoSuchField)
 }
 
-// The field of a name in the root, as the source's `deserialize_map` and `field_order` (in `MapDeserializer`) find it. A String root has the empty
-// name only.
+// The field of a name in the root, as the source's `deserialize_map` and `field_order` (in `MapDeserializer`) find it.
+// A String root has the empty name only.
 pub(crate) fn root_field(words: &[u32], text: &[u8], name: &[u8]) -> FieldAt
     requires { ⌜ Readable (now words) (now text) ⌝ ∗ ⌜ 0 < recordCount (now words) ⌝ }
     ensures { λ r. ⌜ r ≡ fieldAt (now (words .entry)) (now (text .entry)) (now (name .entry)) ⌝ }

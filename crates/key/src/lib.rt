@@ -1,5 +1,6 @@
 // What key a raw segment is: the work of `collect_key` (the source's src/de/parse.rs) on the segment's bytes.
-// The rule is in specs/Keys and specs/Collected; specs/KeyOrder is the order of keys, which the definitions and the store cite.
+// The rule is in specs/Keys and specs/Collected; specs/KeyOrder is the order of keys, which the definitions and the
+// store cite.
 // Below it stand the settings (config), whose record the rule takes, decoding (decode) and laws.
 ghost use mathlib.Core.Path.{_≡_};
 ghost use Rattle.key.specs.Collected.{collected, keyIn};

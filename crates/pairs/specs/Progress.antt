@@ -17,7 +17,8 @@ use Rattle.cursor.specs.From.{after}
 use Rattle.tree.specs.declared.Here.{Here}
 use Rattle.tree.specs.Stored.{usedBy, Stands, Standing}
 
--- Nothing is due but to go on in a mode. Here and below, what is due depends on the path that leads to the record where the tree stands.
+-- Nothing is due but to go on in a mode. Here and below, what is due depends on the path that leads to the record
+-- where the tree stands.
 abbrev pub still : (List Key → Mode) → List Key → Step
 still mode path = skip then mode path
 
@@ -26,8 +27,9 @@ abbrev pub stepBy : Config → Mode → Option Symbol → List ℕ → Step
 stepBy config mode (some symbol) raw = step config mode symbol raw
 stepBy config mode none raw = finish config mode then rootKey []
 
--- At a place, a tree stands in the words and the text, a step is due, and what is read from there on is this answer. The bytes taken cover what
--- is used and, once the step is made, what its mode may still need (reading's specs/Covering): so no count outgrows a u32, however much is lent.
+-- At a place, a tree stands in the words and the text, a step is due, and what is read from there on is this answer.
+-- The bytes taken cover what is used and, once the step is made, what its mode may still need (reading's
+-- specs/Covering): so no count outgrows a u32, however much is lent.
 pub record Reads (config : Config) (input words text : List ℕ) (here : Here) (place : ℕ) (due : List Key → Step) (answer : Answer) : Type 0 where
   pub env : Environment
   pub path : List Key
@@ -47,7 +49,8 @@ pub record Ready (config : Config) (input words text : List ℕ) (here : Here) (
   pub answer : Answer
   pub reads : Reads config input words text here place due answer
 
--- What the tree's commands ask, for a key and a value that are segments of the input: some tree stands there, and the counts stay below 2 ^ 32.
+-- What the tree's commands ask, for a key and a value that are segments of the input: some tree stands there, and the
+-- counts stay below 2 ^ 32.
 pub record Able (input words text : List ℕ) (here : Here) : Type 0 where
   pub stands : Standing words text here
   pub records : here .records + 4 < 2 ^ 32

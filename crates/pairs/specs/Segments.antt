@@ -1,5 +1,5 @@
--- A key and a single value of the input as the tree's commands take them: a kind, and the bounds of a raw segment beside it, which is looked
--- at for a String only.
+-- A key and a single value of the input as the tree's commands take them: a kind, and the bounds of a raw segment
+-- beside it, which is looked at for a String only.
 use Rattle.cursor.specs.declared.collecting.Key.{Key}
 use Rattle.cursor.specs.declared.collecting.Leaf.{Leaf}
 use Rattle.records.specs.declared.keys.RawKey.{RawKey}

@@ -7,7 +7,8 @@ use Rattle.reading.specs.Reading.{Outcome, reading}
 use Rattle.parse.specs.declared.Parsed.{Parsed}
 use Rattle.parse.specs.Outcomes.{outcomeOf}
 
--- What it was lent, what it answered and what it left in the words and the text, and that this is what the contract ensures.
+-- What it was lent, what it answered and what it left in the words and the text, and that this is what the contract
+-- ensures.
 pub record Call (config : Config) (input : List ℕ) : Type 0 where
   pub lentWords : List ℕ
   pub lentText : List ℕ

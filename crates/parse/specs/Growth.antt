@@ -1,4 +1,5 @@
--- Demand 3 about the code, document 01's 'A ticket that grows': "one claim about what two whole readings answer and leave in their buffers".
+-- Demand 3 about the code, document 01's 'A ticket that grows': "one claim about what two whole readings answer and
+-- leave in their buffers".
 -- It holds of any two calls that meet the contract of `parse`. Proved in proofs/Calls as `growth`.
 use Prim.Native.Nat.{ℕ, _≤_}
 use mathlib.Core.Path.{_≡_}

@@ -1,5 +1,5 @@
-// The source's `Parser` (src/de/parse.rs), which holds the input and an index. It is thin: its functions make it or take it apart, and the
-// reading is done by functions over plain slices.
+// The source's `Parser` (src/de/parse.rs), which holds the input and an index. It is thin: its functions make it or
+// take it apart, and the reading is done by functions over plain slices.
 ghost use mathlib.Core.Path.{_≡_};
 ghost use lib.ListN.{drop};
 ghost use Rattle.reading.specs.Reading.{reading};
@@ -50,7 +50,8 @@ impl<'qs> Parser<'qs> {
     // Reads the parser's input from its index on into the lent words and text.
     pub fn parse(self, config: Config, words: &mut [u32], text: &mut [u8]) -> Parsed
         ensures { λ r. ⌜ outcomeOf r (now (words .exit)) (now (text .exit))
-            ≡ reading config (drop (self .entry .index) (now (self .entry .input))) (now (words .entry)) (now (text .entry)) ⌝ }
+            ≡ reading config (drop (self .entry .index) (now (self .entry .input))) (now (words .entry))
+            (now (text .entry)) ⌝ }
     {
         parse_at(self.input, self.index, config, words, text)
     }

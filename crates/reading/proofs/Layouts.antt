@@ -13,7 +13,7 @@ use Rattle.row.specs.Row.{recordWidth, kindWord, keyKindWord, keyWord, keyLengt
 use Rattle.row.specs.Words.{word}
 use Rattle.reading.specs.Values.{Label, unkeyed, intKey, stringKey, Row, Value, uninitialized, null, noValue, string, map, sequence, Forest, none, child, Node}
 use Rattle.reading.specs.Charging.{Used}
-use Rattle.reading.specs.Records.{kind, keyWords, textOffset, textLength, first, firstChild, recordWords, recordBelow, recordAmong, recordsFrom, rooted, layout}
+use Rattle.reading.specs.Records.{kind, keyKind, keyOffset, keyLength, textOffset, textLength, first, firstChild, recordWords, recordBelow, recordAmong, recordsFrom, rooted, layout}
 use Rattle.reading.specs.Trees.{plain, entries, elements}
 use Rattle.reading.specs.Buffers.{labelIn, rowIn, valueWithin, forestWithin, nodeIn}
 use Rattle.reading.specs.Counts.{values, entryValues, elementValues}
@@ -26,35 +26,26 @@ use Rattle.reading.proofs.Held.{Held}
 -- A record's words.
 pub record Recorded (w : List ℕ) (m : ℕ) (l : Row) (v : Value) (ds : Forest) : Type 0 where
   pub kind-is : word w m kindWord ≡ kind v
-  pub key-kind : word w m keyKindWord ≡ getD (keyWords (l .label)) 0 0
-  pub key-is : word w m keyWord ≡ getD (keyWords (l .label)) 1 0
-  pub key-length : word w m keyLengthWord ≡ getD (keyWords (l .label)) 2 0
+  pub key-kind : word w m keyKindWord ≡ keyKind (l .label)
+  pub key-is : word w m keyWord ≡ keyOffset (l .label)
+  pub key-length : word w m keyLengthWord ≡ keyLength (l .label)
   pub text-is : word w m textWord ≡ textOffset v
   pub text-length : word w m textLengthWord ≡ textLength v
   pub child-is : word w m childWord ≡ firstChild v
   pub next-is : word w m nextWord ≡ first ds
 
--- The words one by one: those of the key stand in the middle.
-spelled : (l : Label) (v : Value) (ds : Forest)
-    → recordWords (record { label = l }) v ds
-    ≡ kind v ∷ getD (keyWords l) 0 0 ∷ getD (keyWords l) 1 0 ∷ getD (keyWords l) 2 0 ∷ textOffset v ∷ textLength v ∷ firstChild v ∷ first ds ∷ []
-spelled unkeyed v ds = refl
-spelled (intKey a) v ds = refl
-spelled (stringKey o x) v ds = refl
-
 recorded : (w : List ℕ) (m : ℕ) (l : Row) (v : Value) (ds : Forest) → ((j : ℕ) → j < recordWidth → word w m j ≡ getD (recordWords l v ds) j 0)
     → Recorded w m l v ds
 recorded w m l v ds h =
-    let e = spelled (l .label) v ds in
     record {
-      kind-is = h kindWord (omega arith) ∙ ap (λ (r : List ℕ). getD r kindWord 0) e;
-      key-kind = h keyKindWord (omega arith) ∙ ap (λ (r : List ℕ). getD r keyKindWord 0) e;
-      key-is = h keyWord (omega arith) ∙ ap (λ (r : List ℕ). getD r keyWord 0) e;
-      key-length = h keyLengthWord (omega arith) ∙ ap (λ (r : List ℕ). getD r keyLengthWord 0) e;
-      text-is = h textWord (omega arith) ∙ ap (λ (r : List ℕ). getD r textWord 0) e;
-      text-length = h textLengthWord (omega arith) ∙ ap (λ (r : List ℕ). getD r textLengthWord 0) e;
-      child-is = h childWord (omega arith) ∙ ap (λ (r : List ℕ). getD r childWord 0) e;
-      next-is = h nextWord (omega arith) ∙ ap (λ (r : List ℕ). getD r nextWord 0) e;
+      kind-is = h kindWord (omega arith);
+      key-kind = h keyKindWord (omega arith);
+      key-is = h keyWord (omega arith);
+      key-length = h keyLengthWord (omega arith);
+      text-is = h textWord (omega arith);
+      text-length = h textLengthWord (omega arith);
+      child-is = h childWord (omega arith);
+      next-is = h nextWord (omega arith);
     }
 
 -- The words hold the record of every value below. Record 0, the root, is no child.
@@ -76,8 +67,8 @@ keyed-back : (w t : List ℕ) (m : ℕ) (l : Row) (v : Value) (ds : Forest) → 
     → rowIn true w t m ≡ l
 keyed-back w t m l v ds r h k = ap (λ (x : Label). record { label = x }) (go (l .label) (r .key-kind) (r .key-is) (r .key-length) h k)
   where
-    go : (x : Label) → word w m keyKindWord ≡ getD (keyWords x) 0 0 → word w m keyWord ≡ getD (keyWords x) 1 0
-        → word w m keyLengthWord ≡ getD (keyWords x) 2 0 → LaidLabel t x → Keyed x → labelIn true w t m ≡ x
+    go : (x : Label) → word w m keyKindWord ≡ keyKind x → word w m keyWord ≡ keyOffset x
+        → word w m keyLengthWord ≡ keyLength x → LaidLabel t x → Keyed x → labelIn true w t m ≡ x
     go unkeyed a b c h k = absurd k
     go (intKey i) a b c h k = rw (a, b)
     go (stringKey o x) a b c h k = rw (a, b, c) (ap (stringKey o) (lies-part h))

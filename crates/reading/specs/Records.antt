@@ -18,12 +18,22 @@ kind (string o x) = stringKind
 kind null = nullKind
 kind noValue = noValueKind
 
--- "1 key kind: 0 none, 1 Int, 2 String"; "2 Int value or key's text offset (0 for an empty key); 3 key length (0 for
--- Int); both 0 for key kind 0"
-abbrev pub keyWords : Label → List ℕ
-keyWords unkeyed = noKeyKind ∷ 0 ∷ 0 ∷ []
-keyWords (intKey a) = intKeyKind ∷ a ∷ 0 ∷ []
-keyWords (stringKey o x) = stringKeyKind ∷ o ∷ length x ∷ []
+-- "1 key kind: 0 none, 1 Int, 2 String"
+abbrev pub keyKind : Label → ℕ
+keyKind unkeyed = noKeyKind
+keyKind (intKey a) = intKeyKind
+keyKind (stringKey o x) = stringKeyKind
+
+-- "2 Int value or key's text offset (0 for an empty key); 3 key length (0 for Int); both 0 for key kind 0"
+abbrev pub keyOffset : Label → ℕ
+keyOffset unkeyed = 0
+keyOffset (intKey a) = a
+keyOffset (stringKey o x) = o
+
+abbrev pub keyLength : Label → ℕ
+keyLength unkeyed = 0
+keyLength (intKey a) = 0
+keyLength (stringKey o x) = length x
 
 -- "4, 5 value's text offset and length, both 0 unless String"
 abbrev pub textOffset : Value → ℕ
@@ -58,7 +68,9 @@ firstChild noValue = 0
 -- A record, its words in the order of their numbers (row's specs/Row): its row, its value, its later siblings.
 abbrev pub recordWords : Row → Value → Forest → List ℕ
 recordWords row value later =
-    kind value ∷ keyWords (row .label) ++ (textOffset value ∷ textLength value ∷ firstChild value ∷ first later ∷ [])
+    let label = row .label in
+    kind value ∷ keyKind label ∷ keyOffset label ∷ keyLength label
+    ∷ textOffset value ∷ textLength value ∷ firstChild value ∷ first later ∷ []
 
 -- The record of number i below a value, and among some children and all below them; else the default d.
 abbrev mutual

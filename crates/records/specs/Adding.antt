@@ -25,9 +25,12 @@ pub record Change : Type 0 where
 abbrev pub Leaves : Change → List ℕ → Appended → Type 0
 Leaves change ws r = (ws ≡ change .words) × (r ≡ change .answer)
 
--- "Space is checked just before each of these": the words changed so that `count` records are used, or too few and nothing changed.
+-- "Space is checked just before each of these": the words changed so that `count` records are used, or too few and
+-- nothing changed.
 abbrev pub ifRoom : List ℕ → ℕ → List ℕ → Change
-ifRoom ws count ws' = cond (leb count (recordCount ws)) (record { words = ws'; answer = Used count }) (record { words = ws; answer = TooFew })
+ifRoom ws count ws' =
+    cond (leb count (recordCount ws)) (record { words = ws'; answer = Used count })
+    (record { words = ws; answer = TooFew })
 
 -- The record of a Sequence's element: no key.
 abbrev pub unkeyed : ValueWords → Record
@@ -45,10 +48,12 @@ childless kind = record { kind = kind; offset = 0; len = 0 }
 unfoldable pub pushed : List ℕ → ℕ → ℕ → ValueWords → Change
 pushed ws used n v = ifRoom ws (used + 1) (inserted ws used n (lastOf 0 (children ws n)) 0 (unkeyed v))
 
--- "a single value becomes a Sequence of two, keeping its record number and key, the old value moving to a new record and the new one following"
+-- "a single value becomes a Sequence of two, keeping its record number and key, the old value moving to a new record
+-- and the new one following"
 abbrev pub sequenceOfTwo : List ℕ → ℕ → ℕ → ValueWords → List ℕ
 sequenceOfTwo ws used n v =
-    inserted (inserted (withValue ws n (childless sequenceKind)) used n 0 0 (unkeyed (valueAt ws n))) (used + 1) n used 0 (unkeyed v)
+    inserted (inserted (withValue ws n (childless sequenceKind)) used n 0 0 (unkeyed (valueAt ws n)))
+    (used + 1) n used 0 (unkeyed v)
 
 unfoldable pub paired : List ℕ → ℕ → ℕ → ValueWords → Change
 paired ws used n v = ifRoom ws (used + 2) (sequenceOfTwo ws used n v)
@@ -69,11 +74,13 @@ abbrev pub atPosition : {A : Type 0} → Position → (ℕ → A) → (ℕ → �
 atPosition (Found m) found between = found m
 atPosition (Between prev next) found between = between prev next
 
--- The rule at record n: "a Map adds it under its empty key, calling the same rule again". Each call is at a child, whose number is
--- greater, so that as much fuel as there are records from n on isn't used up: `append`, which has none, answers the same for all such fuel.
+-- The rule at record n: "a Map adds it under its empty key, calling the same rule again". Each call is at a child,
+-- whose number is greater, so that as much fuel as there are records from n on isn't used up: `append`, which has
+-- none, answers the same for all such fuel.
 unfoldable pub appended : ℕ → List ℕ → List ℕ → ℕ → ℕ → ValueWords → Change
 appended zero ws text used n v = record { words = ws; answer = TooFew }
 appended (suc fuel) ws text used n v =
     cond (eqb (word ws n kindWord) mapKind)
-    (atPosition (position ws text (str []) n) (λ m. appended fuel ws text used m v) (λ prev next. childAdded ws used n prev next v))
+    (atPosition (position ws text (str []) n) (λ m. appended fuel ws text used m v)
+    (λ prev next. childAdded ws used n prev next v))
     (appendedHere ws used n v)

@@ -1,4 +1,5 @@
--- Document 01, 'Settings and the lent buffers': the words hold a forest of records, `used` of them, with keys in the text. The store's invariant.
+-- Document 01, 'Settings and the lent buffers': the words hold a forest of records, `used` of them, with keys in the
+-- text. The store's invariant.
 use Prim.Native.Nat.{ℕ, _<_, _≤_}
 use mathlib.Core.Path.{_≡_}
 use mathlib.Core.List.{List}

@@ -14,8 +14,8 @@ use Rattle.row.specs.Row.{intKeyKind}
 use Rattle.row.specs.Words.{textPart}
 use Rattle.records.specs.Records.{keyWordsAt}
 
--- The key that a record's words say: an Int, or else a part of the text. Key kind 0 falls under the second, as in the code, but only
--- the children of a Map are looked through, and crate reading proves that those have keys.
+-- The key that a record's words say: an Int, or else a part of the text. Key kind 0 falls under the second, as in the
+-- code, but only the children of a Map are looked through, and crate reading proves that those have keys.
 unfoldable pub storedKey : List ℕ → KeyWords → Key
 storedKey text k = cond (eqb (k .kind) intKeyKind) (int (k .offset)) (str (textPart text (k .offset) (k .len)))
 

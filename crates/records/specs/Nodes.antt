@@ -28,7 +28,8 @@ abbrev pub count : ℕ → Nodes → ℕ
 count m nil = 0
 count m (node n r c s) = indicator m n + count m c + count m s
 
--- What stands around a place in a forest: nothing; or the place is among the children of a node, or among the siblings behind it.
+-- What stands around a place in a forest: nothing; or the place is among the children of a node, or among the siblings
+-- behind it.
 pub data Context : Type 0 where
   here : Context
   down : ℕ → Record → Context → Nodes → Context

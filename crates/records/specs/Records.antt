@@ -21,7 +21,8 @@ valueAt ws n = record { kind = word ws n kindWord; offset = word ws n textWord; 
 abbrev pub recordAt : List ℕ → ℕ → Record
 recordAt ws n = record { key = keyWordsAt ws n; value = valueAt ws n }
 
--- The words that a key, a value, and a record with no child yet and a next sibling are written to: the number of each, and what it becomes.
+-- The words that a key, a value, and a record with no child yet and a next sibling are written to: the number of each,
+-- and what it becomes.
 abbrev pub keyFields : KeyWords → List (ℕ × ℕ)
 keyFields k = (keyKindWord, k .kind) ∷ (keyWord, k .offset) ∷ (keyLengthWord, k .len) ∷ []
 

@@ -11,7 +11,8 @@ use Rattle.row.specs.Words.{recordCount, word}
 use Rattle.records.specs.Records.{keyWordsAt}
 use Rattle.records.specs.Keys.{keyAt, InText}
 
--- The numbers of the siblings from record n on, at most as many as the fuel. That the fuel of `children` isn't used up is `ends` of `Linked`, below.
+-- The numbers of the siblings from record n on, at most as many as the fuel. That the fuel of `children` isn't used up
+-- is `ends` of `Linked`, below.
 unfoldable pub chain : List ℕ → ℕ → ℕ → List ℕ
 chain ws zero n = []
 chain ws (suc fuel) zero = []
@@ -46,7 +47,8 @@ Within lo hi (m ∷ ms) = (lo < m) × (m < hi) × Within lo hi ms
 
 -- The siblings from record n on are records, and they end.
 abbrev pub Ends : List ℕ → ℕ → Type 0
-Ends ws n = Within 0 (recordCount ws) (chain ws (recordCount ws) n) × (length (chain ws (recordCount ws) n) < recordCount ws)
+Ends ws n = Within 0 (recordCount ws) (chain ws (recordCount ws) n)
+    × (length (chain ws (recordCount ws) n) < recordCount ws)
 
 -- "every child has a greater number than its parent", and each list of children ends.
 pub record Linked (ws : List ℕ) : Type 0 where

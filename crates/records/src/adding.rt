@@ -3,7 +3,8 @@ ghost use mathlib.Core.Path.{_≡_};
 ghost use Prim.Native.Nat.{ℕ, _+_, _-_, _<_, _≤_, _^_};
 ghost use Rattle.row.specs.Words.{recordCount};
 ghost use Rattle.records.specs.Siblings.{Linked, WellFormed};
-ghost use Rattle.records.specs.Adding.{unkeyed, emptyKeyed, Leaves, childAdded, pushed, sequenceOfTwo, paired, appendedHere, appended};
+ghost use Rattle.records.specs.Adding.{unkeyed, emptyKeyed, Leaves, childAdded, pushed};
+ghost use Rattle.records.specs.Adding.{sequenceOfTwo, paired, appendedHere, appended};
 use crate::keys::RawKey;
 use crate::siblings;
 use crate::siblings::Position;
@@ -46,7 +47,8 @@ fn empty_keyed(value: ValueWords) -> Record
     }
 }
 
-// Adds a value as a new child under the empty key of the map n, whose position is between prev and next. Without room nothing changes.
+// Adds a value as a new child under the empty key of the map n, whose position is between prev and next. Without room
+// nothing changes.
 fn add_child(
     words: &mut [u32],
     used: u32,
@@ -80,8 +82,8 @@ fn push(words: &mut [u32], used: u32, n: u32, value: ValueWords) -> Appended
     }
 }
 
-// Makes the single value of record n a sequence of two: the old value moves to a new record, and the new one follows in another. The
-// record keeps its key and its siblings.
+// Makes the single value of record n a sequence of two: the old value moves to a new record, and the new one follows
+// in another. The record keeps its key and its siblings.
 fn make_sequence(words: &mut [u32], used: u32, n: u32, value: ValueWords)
     requires { ⌜ (n < recordCount (now words)) × (used + 1 < recordCount (now words)) × (used + 2 < 2 ^ 32) ⌝ }
     ensures { λ _. ⌜ now (words .exit) ≡ sequenceOfTwo (now (words .entry)) used n value ⌝ }
@@ -126,7 +128,8 @@ fn append_here(words: &mut [u32], used: u32, n: u32, value: ValueWords) -> Appen
     pair(words, used, n, value)
 }
 
-// Adds a value at record n. A map adds it under its empty key: by the same rule at the child that has this key, whose number is greater.
+// Adds a value at record n. A map adds it under its empty key: by the same rule at the child that has this key, whose
+// number is greater.
 // Without room nothing changes.
 pub fn append(words: &mut [u32], text: &[u8], used: u32, n: u32, value: ValueWords) -> Appended
     requires { ⌜ WellFormed (now words) (now text) ⌝ ∗ ⌜ (n < recordCount (now words)) × (used + 2 < 2 ^ 32) ⌝ }

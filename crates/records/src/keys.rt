@@ -15,7 +15,8 @@ pub enum Ordering {
     Greater,
 }
 
-// A key that is handed in, to be found or to be entered: an Int and its value, or a String, whose raw segment is handed in beside it.
+// A key that is handed in, to be found or to be entered: an Int and its value, or a String, whose raw segment is
+// handed in beside it.
 pub enum RawKey {
     Int(u32),
     String,
@@ -34,8 +35,8 @@ fn compare_ints(a: u32, b: u32) -> Ordering
     Ordering::Equal
 }
 
-// The order of some bytes and those that a raw segment decodes to. The segment is decoded on the way and nothing is written, so that
-// a key that is there already is found however little text is left.
+// The order of some bytes and those that a raw segment decodes to. The segment is decoded on the way and nothing is
+// written, so that a key that is there already is found however little text is left.
 fn compare_bytes(bytes: &[u8], raw: &[u8]) -> Ordering
     ensures { λ r. ⌜ orderingOf r ≡ compareBytes (now (bytes .entry)) (decoded (now (raw .entry))) ⌝ }
 {
@@ -69,7 +70,8 @@ fn compare_bytes(bytes: &[u8], raw: &[u8]) -> Ordering
 // Where the key of record n stands to the one that is looked for.
 pub(crate) fn compare_key(words: &[u32], text: &[u8], n: u32, key: RawKey, raw: &[u8]) -> Ordering
     requires { ⌜ (n < recordCount (now words)) × InText (now text) (keyWordsAt (now words) n) ⌝ }
-    ensures { λ r. ⌜ orderingOf r ≡ compareKeys (keyAt (now (words .entry)) (now (text .entry)) n) (meantKey key (now (raw .entry))) ⌝ }
+    ensures { λ r. ⌜ orderingOf r ≡ compareKeys (keyAt (now (words .entry)) (now (text .entry)) n)
+        (meantKey key (now (raw .entry))) ⌝ }
 {
     let kind = row::get_word(words, n, row::KEY_KIND);
     match key {

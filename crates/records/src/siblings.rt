@@ -3,7 +3,8 @@ ghost use mathlib.Core.Path.{_≡_};
 ghost use Prim.Native.Nat.{_<_};
 ghost use Rattle.row.specs.Words.{recordCount};
 ghost use Rattle.records.specs.Keys.{meantKey};
-ghost use Rattle.records.specs.Siblings.{chain, children, standing, seek, position, lastOf, Ends, Linked, WellFormed};
+ghost use Rattle.records.specs.Siblings.{chain, children, standing, seek, position, lastOf};
+ghost use Rattle.records.specs.Siblings.{Ends, Linked, WellFormed};
 ghost use Rattle.records.specs.Records.{linked, inserted};
 use crate::keys;
 use crate::keys::Ordering;
@@ -20,8 +21,8 @@ pub enum Position {
 // The position of a key among the siblings from `first` on, of which `before` is the one before the first.
 fn walk(words: &[u32], text: &[u8], before: u32, first: u32, key: RawKey, raw: &[u8]) -> Position
     requires { ⌜ WellFormed (now words) (now text) ⌝ ∗ ⌜ Ends (now words) first ⌝ }
-    ensures { λ r. ⌜ r ≡ seek (standing (now (words .entry)) (now (text .entry)) (meantKey key (now (raw .entry)))) before
-        (chain (now (words .entry)) (recordCount (now (words .entry))) first) ⌝ }
+    ensures { λ r. ⌜ r ≡ seek (standing (now (words .entry)) (now (text .entry)) (meantKey key (now (raw .entry))))
+        before (chain (now (words .entry)) (recordCount (now (words .entry))) first) ⌝ }
 {
     let mut prev = before;
     let mut cur = first;
@@ -77,9 +78,11 @@ fn link(words: &mut [u32], parent: u32, prev: u32, new: u32)
     }
 }
 
-// Puts a new record, whose number is the count of those used, between prev and next among the children of parent. Nothing else changes.
+// Puts a new record, whose number is the count of those used, between prev and next among the children of parent.
+// Nothing else changes.
 pub fn insert(words: &mut [u32], used: u32, parent: u32, prev: u32, next: u32, new: Record)
-    requires { ⌜ (used < recordCount (now words)) × (parent < recordCount (now words)) × (prev < recordCount (now words)) ⌝ }
+    requires { ⌜ (used < recordCount (now words)) × (parent < recordCount (now words))
+        × (prev < recordCount (now words)) ⌝ }
     ensures { λ _. ⌜ now (words .exit) ≡ inserted (now (words .entry)) used parent prev next new ⌝ }
 {
     store::write_record(words, used, new, next);

@@ -1,5 +1,5 @@
--- Document 01, 'Settings and the lent buffers': the lent words as records, and the lent text. `word` and `withWord` stay
--- shut: proofs use their laws (proofs/Words).
+-- Document 01, 'Settings and the lent buffers': the lent words as records, and the lent text. `word` and `withWord`
+-- stay shut: proofs use their laws (proofs/Words).
 use Prim.Native.Nat.{ℕ, _+_, _*_, _/_}
 use mathlib.Core.List.{List}
 use lib.ListN.{length, getD, set, take, drop}

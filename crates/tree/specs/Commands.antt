@@ -25,8 +25,9 @@ pub data After (env : Environment) (ws text : List ℕ) (path : List Key) : Perf
       → After env ws text path (MadeHere here) (made tree used)
   stopped : {x : Refusal} → After env ws text path (Refused x) (refused x)
 
--- A function does as a rule at a path: whatever tree stands in the words and the text and whatever path leads to the record, the words, the
--- text and the answer are as the rule makes them, and `to path` leads to the record that is answered.
+-- A function does as a rule at a path: whatever tree stands in the words and the text and whatever path leads to the
+-- record, the words, the text and the answer are as the rule makes them, and `to path` leads to the record that is
+-- answered.
 abbrev pub Does :
     List ℕ → List ℕ → List ℕ → List ℕ → Here → (Environment → List Key → Rule Node) → (List Key → List Key) → Performed
     → Type 0

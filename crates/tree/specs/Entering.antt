@@ -25,15 +25,23 @@ abbrev pub newKeyWords : RawKey → ℕ → ℕ → KeyWords
 newKeyWords (Int i) offset len = record { kind = intKeyKind; offset = i; len = 0 }
 newKeyWords String offset len = record { kind = stringKeyKind; offset = cond (eqb len 0) 0 offset; len = len }
 
--- What entering a new key leaves and answers, by its three ways: too few records, too little text, or a child, Uninitialized, put between prev
--- and next, with the key's text laid. "of 14 and 15 together, 14"
-pub data Entered (ws text : List ℕ) (here : Here) (prev next : ℕ) (key : RawKey) (raw ws' text' : List ℕ) : Performed → Type 0 where
+-- What entering a new key leaves and answers, by its three ways: too few records, too little text, or a child,
+-- Uninitialized, put between prev and next, with the key's text laid. "of 14 and 15 together, 14"
+pub data Entered (ws text : List ℕ) (here : Here) (prev next : ℕ) (key : RawKey)
+    (raw ws' text' : List ℕ) : Performed → Type 0 where
   few : recordCount ws < here .records + 1 → Entered ws text here prev next key raw ws' text' (Refused TooFewRecords)
   little : here .records + 1 ≤ recordCount ws → length text < here .bytes + length (keyText (meantKey key raw))
       → Entered ws text here prev next key raw ws' text' (Refused TooLittleText)
   entered : here .records + 1 ≤ recordCount ws → here .bytes + length (keyText (meantKey key raw)) ≤ length text
       → ws' ≡ inserted ws (here .records) (here .node) prev next
-      (record { key = newKeyWords key (here .bytes) (length (keyText (meantKey key raw))); value = childless uninitializedKind })
+      (record {
+        key = newKeyWords key (here .bytes) (length (keyText (meantKey key raw)));
+        value = childless uninitializedKind;
+      })
       → text' ≡ laid text (here .bytes) (keyText (meantKey key raw))
       → Entered ws text here prev next key raw ws' text'
-      (Made (record { records = here .records + 1; bytes = here .bytes + length (keyText (meantKey key raw)); node = here .records }))
+      (Made (record {
+        records = here .records + 1;
+        bytes = here .bytes + length (keyText (meantKey key raw));
+        node = here .records;
+      }))

@@ -1,4 +1,5 @@
--- Document 01, 'Settings and the lent buffers': "Text is laid end to end as made". 'Decoding': it "writes into the free tail of the text slice".
+-- Document 01, 'Settings and the lent buffers': "Text is laid end to end as made". 'Decoding': it "writes into the
+-- free tail of the text slice".
 use mathlib.Core.Bool.{Bool, cond}
 use mathlib.Core.List.{List, _++_}
 use Prim.Native.Nat.{ℕ, _+_}
@@ -17,4 +18,5 @@ layAnswer text used bytes = cond (fitsBehind text used bytes) (Yes (length bytes
 
 -- The text after it: unchanged where they don't fit.
 abbrev pub laid : List ℕ → ℕ → List ℕ → List ℕ
-laid text used bytes = cond (fitsBehind text used bytes) (take used text ++ (bytes ++ drop (used + length bytes) text)) text
+laid text used bytes =
+    cond (fitsBehind text used bytes) (take used text ++ (bytes ++ drop (used + length bytes) text)) text

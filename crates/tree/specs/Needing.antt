@@ -13,7 +13,8 @@ use Rattle.tree.specs.declared.Here.{Here}
 use Rattle.tree.specs.declared.Performed.{Performed}
 use Rattle.tree.specs.declared.Performed.the-variants.{Made, Refused}
 
--- "Needing a map: Uninitialized becomes Map, a Map serves, the rest refuse (8, 9, 10)": the answer by the record's kind.
+-- "Needing a map: Uninitialized becomes Map, a Map serves, the rest refuse (8, 9, 10)": the answer by the record's
+-- kind.
 abbrev pub mapAnswer : Here → ℕ → Performed
 mapAnswer here kind =
     cond (eqb kind uninitializedKind) (Made here)

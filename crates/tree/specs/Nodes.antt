@@ -1,16 +1,15 @@
 -- Document 01, 'Settings and the lent buffers': the records of a tree, linked by first child and next sibling.
-use lib.ListN.{getD}
 use Rattle.records.specs.declared.store.KeyWords.{KeyWords}
 use Rattle.records.specs.declared.store.ValueWords.{ValueWords}
 use Rattle.records.specs.declared.store.Record.{Record}
 use Rattle.records.specs.Nodes.{Nodes, nil, node}
 use Rattle.reading.specs.Values.{Label, Row, Value, uninitialized, null, noValue, string, map, sequence}
 use Rattle.reading.specs.Values.{Forest, none, child, Node}
-use Rattle.reading.specs.Records.{kind, textOffset, textLength, keyWords}
+use Rattle.reading.specs.Records.{kind, keyKind, keyOffset, keyLength, textOffset, textLength}
 
 -- The words of a key, of a value without its children, and of both.
 abbrev pub labelWords : Label → KeyWords
-labelWords label = record { kind = getD (keyWords label) 0 0; offset = getD (keyWords label) 1 0; len = getD (keyWords label) 2 0 }
+labelWords label = record { kind = keyKind label; offset = keyOffset label; len = keyLength label }
 
 abbrev pub valueWords : Value → ValueWords
 valueWords value = record { kind = kind value; offset = textOffset value; len = textLength value }

@@ -15,7 +15,8 @@ use Rattle.reading.specs.Reading.{lentBy, lending}
 use Rattle.tree.specs.declared.Here.{Here}
 use Rattle.tree.specs.Nodes.{recordOf, below, rooted}
 
--- Document 01, 'Settings and the lent buffers': the words hold a tree, in so many records, and the text holds what is laid for it.
+-- Document 01, 'Settings and the lent buffers': the words hold a tree, in so many records, and the text holds what is
+-- laid for it.
 pub record Stores (ws text : List ℕ) (used filled : ℕ) (tree : Node) (laid : List ℕ) : Type 0 where
   -- the tree's records, and zero behind them
   pub holds : Holds ws text used (rooted tree)

@@ -48,8 +48,9 @@ fn value_words(kind: LeafKind, offset: u32, len: u32) -> ValueWords
     }
 }
 
-// Adds a value at the record, by the rule of Adding. The text comes first: where it doesn't fit, the rule runs all the same, to tell whether
-// the records are too few, which is the refusal then. After a refusal what the words and the text hold is free.
+// Adds a value at the record, by the rule of Adding. The text comes first: where it doesn't fit, the rule runs all the
+// same, to tell whether the records are too few, which is the refusal then. After a refusal what the words and the
+// text hold is free.
 pub fn append_value(
     words: &mut [u32],
     text: &mut [u8],
@@ -83,7 +84,8 @@ pub fn append_value(
     }
 }
 
-// Adds a value last in the sequence that is needed at the record. After a refusal what the words and the text hold is free.
+// Adds a value last in the sequence that is needed at the record. After a refusal what the words and the text hold is
+// free.
 pub fn push(
     words: &mut [u32],
     text: &mut [u8],
@@ -101,8 +103,8 @@ pub fn push(
     }
 }
 
-// Adds a value under a key of the map that is needed at the record: the key is entered and the value added there. A new key's child is
-// Uninitialized and so becomes the value. After a refusal what the words and the text hold is free.
+// Adds a value under a key of the map that is needed at the record: the key is entered and the value added there. A
+// new key's child is Uninitialized and so becomes the value. After a refusal what the words and the text hold is free.
 pub fn insert_unique(
     words: &mut [u32],
     text: &mut [u8],
@@ -114,7 +116,8 @@ pub fn insert_unique(
 ) -> Performed
     requires { ⌜ Standing (now words) (now text) here ⌝ ∗ ⌜ Countable here 4 (length (now raw) + length (now value)) ⌝ }
     ensures { λ r. ⌜ Does (now (words .entry)) (now (text .entry)) (now (words .exit)) (now (text .exit)) here
-        (inserts (meantKey key (now (raw .entry))) (leafOf kind (now (value .entry)))) (further (meantKey key (now (raw .entry)))) r ⌝ }
+        (inserts (meantKey key (now (raw .entry))) (leafOf kind (now (value .entry))))
+        (further (meantKey key (now (raw .entry)))) r ⌝ }
 {
     match entering::enter(words, text, here, key, raw) {
         Performed::Made(there) => append_value(words, text, there, kind, value),

@@ -47,8 +47,8 @@ fn key_words(key: RawKey, offset: u32, len: u32) -> KeyWords
     }
 }
 
-// Enters a new key, whose position is between prev and next among the children of the record: an Uninitialized child. The records are checked
-// before the text. Without room for both nothing changes.
+// Enters a new key, whose position is between prev and next among the children of the record: an Uninitialized child.
+// The records are checked before the text. Without room for both nothing changes.
 fn enter_new(
     words: &mut [u32],
     text: &mut [u8],
@@ -58,9 +58,11 @@ fn enter_new(
     key: RawKey,
     raw: &[u8],
 ) -> Performed
-    requires { ⌜ (here .node < recordCount (now words)) × (prev < recordCount (now words)) × (here .bytes ≤ length (now text))
+    requires { ⌜ (here .node < recordCount (now words)) × (prev < recordCount (now words))
+        × (here .bytes ≤ length (now text))
         × Countable here 2 (length (now raw)) ⌝ }
-    ensures { λ r. ⌜ Entered (now (words .entry)) (now (text .entry)) here prev next key (now (raw .entry)) (now (words .exit)) (now (text .exit)) r ⌝ }
+    ensures { λ r. ⌜ Entered (now (words .entry)) (now (text .entry)) here prev next key (now (raw .entry))
+        (now (words .exit)) (now (text .exit)) r ⌝ }
 {
     if row::has_room(words, here.records + 1) {
         match laying::lay_key(key, raw, text, here.bytes as usize) {
@@ -87,8 +89,9 @@ fn enter_new(
     }
 }
 
-// Enters a key in the map that is needed at the record: the child that has it, or a new one, Uninitialized. An existing key is charged
-// nothing, and found however little text is left. After a refusal what the words and the text hold is free.
+// Enters a key in the map that is needed at the record: the child that has it, or a new one, Uninitialized. An
+// existing key is charged nothing, and found however little text is left. After a refusal what the words and the text
+// hold is free.
 pub fn enter(words: &mut [u32], text: &mut [u8], here: Here, key: RawKey, raw: &[u8]) -> Performed
     requires { ⌜ Standing (now words) (now text) here ⌝ ∗ ⌜ Countable here 2 (length (now raw)) ⌝ }
     ensures does { λ r. ⌜ Does (now (words .entry)) (now (text .entry)) (now (words .exit)) (now (text .exit)) here

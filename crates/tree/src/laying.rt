@@ -24,7 +24,8 @@ fn lay(raw: &[u8], text: &mut [u8], used: usize) -> Decoded
 pub(crate) fn lay_key(key: RawKey, raw: &[u8], text: &mut [u8], used: usize) -> Decoded
     requires { ⌜ used ≤ length (now text) ⌝ }
     ensures answer { λ r. ⌜ r ≡ layAnswer (now (text .entry)) used (keyText (meantKey key (now (raw .entry)))) ⌝ }
-    ensures output { λ _. ⌜ now (text .exit) ≡ laid (now (text .entry)) used (keyText (meantKey key (now (raw .entry)))) ⌝ }
+    ensures output { λ _. ⌜ now (text .exit) ≡ laid (now (text .entry)) used
+        (keyText (meantKey key (now (raw .entry)))) ⌝ }
 {
     match key {
         RawKey::Int(_) => Decoded::Yes(0),
@@ -36,7 +37,8 @@ pub(crate) fn lay_key(key: RawKey, raw: &[u8], text: &mut [u8], used: usize) -> 
 pub(crate) fn lay_value(kind: LeafKind, raw: &[u8], text: &mut [u8], used: usize) -> Decoded
     requires { ⌜ used ≤ length (now text) ⌝ }
     ensures answer { λ r. ⌜ r ≡ layAnswer (now (text .entry)) used (leafText (leafOf kind (now (raw .entry)))) ⌝ }
-    ensures output { λ _. ⌜ now (text .exit) ≡ laid (now (text .entry)) used (leafText (leafOf kind (now (raw .entry)))) ⌝ }
+    ensures output { λ _. ⌜ now (text .exit) ≡ laid (now (text .entry)) used
+        (leafText (leafOf kind (now (raw .entry)))) ⌝ }
 {
     match kind {
         LeafKind::Null => Decoded::Yes(0),

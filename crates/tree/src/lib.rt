@@ -1,4 +1,5 @@
-// The commands of a reading on the tree that the lent records and text hold: a map needed, a sequence needed, a key entered, a value added.
+// The commands of a reading on the tree that the lent records and text hold: a map needed, a sequence needed, a key
+// entered, a value added.
 // What each leaves and answers is what `perform` of the definitions makes of that tree (specs/Commands).
 // Below it stand the store of records (records), a record's row (row), the refusals (refusals), the keys (key),
 // decoding (decode), the definitions (reading) and laws.

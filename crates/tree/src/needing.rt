@@ -17,7 +17,8 @@ pub fn expect_map(words: &mut [u32], here: Here) -> Performed
     requires { ⌜ here .node < recordCount (now words) ⌝ }
     ensures words { λ r. ⌜ (r ≡ mapAnswer here (word (now (words .entry)) (here .node) kindWord))
         × (now (words .exit) ≡ becomes (now (words .entry)) (here .node) mapKind) ⌝ }
-    ensures does { λ r. ⌜ ((text : List ℕ) → Does (now (words .entry)) text (now (words .exit)) text here needsMap stays r) ⌝ }
+    ensures does { λ r. ⌜ ((text : List ℕ) → Does (now (words .entry)) text (now (words .exit)) text here
+        needsMap stays r) ⌝ }
 {
     let kind = row::get_word(words, here.node, row::KIND);
     if kind == row::UNINITIALIZED {
@@ -41,12 +42,14 @@ pub fn expect_map(words: &mut [u32], here: Here) -> Performed
     Performed::Refused(Refusal::MapOnNull)
 }
 
-// Needs a sequence at the record, for `[]`: Uninitialized becomes Sequence, a Sequence serves, the rest refuse. Nothing else changes.
+// Needs a sequence at the record, for `[]`: Uninitialized becomes Sequence, a Sequence serves, the rest refuse.
+// Nothing else changes.
 pub fn expect_sequence(words: &mut [u32], here: Here) -> Performed
     requires { ⌜ here .node < recordCount (now words) ⌝ }
     ensures words { λ r. ⌜ (r ≡ sequenceAnswer here (word (now (words .entry)) (here .node) kindWord))
         × (now (words .exit) ≡ becomes (now (words .entry)) (here .node) sequenceKind) ⌝ }
-    ensures does { λ r. ⌜ ((text : List ℕ) → Does (now (words .entry)) text (now (words .exit)) text here needsSequence stays r) ⌝ }
+    ensures does { λ r. ⌜ ((text : List ℕ) → Does (now (words .entry)) text (now (words .exit)) text here
+        needsSequence stays r) ⌝ }
 {
     let kind = row::get_word(words, here.node, row::KIND);
     if kind == row::UNINITIALIZED {

@@ -1,4 +1,5 @@
--- RFC 3629, section 4, "Syntax of UTF-8 Byte Sequences": its ABNF, rule by rule. A family holds of the bytes that its rule derives.
+-- RFC 3629, section 4, "Syntax of UTF-8 Byte Sequences": its ABNF, rule by rule. A family holds of the bytes that its
+-- rule derives.
 use Prim.Native.Nat.{ℕ, _≤_}
 use mathlib.Core.List.{List, [], _∷_, _++_}
 

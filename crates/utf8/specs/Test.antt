@@ -1,4 +1,5 @@
--- The test for the grammar of RFC 3629, section 4, as an automaton that goes over the bytes once. Its state is the code's struct `Due`.
+-- The test for the grammar of RFC 3629, section 4, as an automaton that goes over the bytes once. Its state is the
+-- code's struct `Due`.
 use Prim.Native.Nat.{ℕ, _-_}
 use mathlib.Core.List.{List, [], _∷_}
 use mathlib.Core.Bool.{Bool, cond}
@@ -17,7 +18,8 @@ tails n = due n 0x80 0xBF
 abbrev pub refused : Due
 refused = due 1 1 0
 
--- What is due after the first byte x of a character, where n more are needed. Four first bytes narrow the range of the second.
+-- What is due after the first byte x of a character, where n more are needed. Four first bytes narrow the range of the
+-- second.
 unfoldable pub second : ℕ → ℕ → Due
 second n x =
     cond (eqb x 0xE0) (due n 0xA0 0xBF)  -- below it, overlong

@@ -1,5 +1,5 @@
-// Whether bytes are UTF-8. Document 01: "UTF-8 is RFC 3629". In the source it is `std::str::from_utf8`, which `decode_utf8` of
-// src/de/string_parser.rs calls. What is promised stands in specs/Decides.antt.
+// Whether bytes are UTF-8. Document 01: "UTF-8 is RFC 3629". In the source it is `std::str::from_utf8`, which
+// `decode_utf8` of src/de/string_parser.rs calls. What is promised stands in specs/Decides.antt.
 // Below it stands `laws`.
 ghost use mathlib.Core.Path.{_≡_};
 ghost use Rattle.utf8.specs.Decides.{Decides};
