@@ -18,17 +18,19 @@ use Rattle.reading.proofs.Outcomes.{Sound}
 use Rattle.records.proofs.Forests.{indicator-same}
 use Rattle.parse.specs.declared.Parsed.{Parsed}
 use Rattle.parse.specs.Outcomes.{answerOf, outcomeOf as parsedOutcome}
-use Rattle.de.specs.declared.DuplicateKeyBehavior.{DuplicateKeyBehavior}
+use Rattle.fields.specs.declared.DuplicateKeyBehavior.{DuplicateKeyBehavior}
 use Rattle.de.specs.declared.FieldRead.{FieldRead}
-use Rattle.de.specs.declared.text.TextRead.{TextRead}
-use Rattle.de.specs.declared.list.ListRead.{ListRead}
-use Rattle.de.specs.Fields.{rootField}
-use Rattle.de.specs.Lists.{Listed}
-use Rattle.de.specs.Reads.{TextOutcome, ListOutcome, leaving, unread, textAnswer, textOfField, textAfter, textRead, listOfField, listOutcome, listAfter, leftIn, unlisted, listRead}
-use Rattle.de.specs.OnRecords.{Readable, fieldAt, fieldTextAt, fieldListAt, elementCount, listReadAnswer, leftBy, Writes, wrote, stopped}
+use Rattle.fields.specs.declared.text.TextRead.{TextRead}
+use Rattle.fields.specs.declared.list.ListRead.{ListRead}
+use Rattle.fields.specs.Fields.{rootField}
+use Rattle.fields.specs.Texts.{textOfField}
+use Rattle.fields.specs.Lists.{Listed, listOfField}
+use Rattle.de.specs.Reads.{TextOutcome, ListOutcome, leaving, unread, textAnswer, textAfter, textRead, listOutcome, listAfter, leftIn, unlisted, listRead}
+use Rattle.de.specs.ListReads.{elementCount, listReadAnswer, leftBy}
+use Rattle.fields.specs.OnRecords.{Readable, fieldAt, fieldTextAt, fieldListAt, Writes, wrote, stopped}
 use Rattle.de.proofs.Stored.{left, filled, stores, readable, some-record}
-use Rattle.de.proofs.Agree.{At, field-agrees, field-text, field-list}
-use Rattle.de.proofs.Few.{FewElements, few}
+use Rattle.fields.proofs.Agree.{At, field-agrees, field-text, field-list}
+use Rattle.fields.proofs.Few.{FewElements, few}
 use Rattle.de.proofs.Went.{Went, accepting, refusing, went}
 
 -- The records of an accepted reading, and what is found at their root.

@@ -20,13 +20,13 @@ use Rattle.reading.specs.Running.{accepted}
 use Rattle.reading.specs.Reading.{Outcome, lentBy, outcome, Read, after}
 use Rattle.reading.proofs.Laying.{laid-more, lies-part}
 use Rattle.reading.proofs.Outcomes.{Sound}
-use Rattle.de.specs.declared.DuplicateKeyBehavior.{DuplicateKeyBehavior}
-use Rattle.de.specs.declared.text.TextRead.{TextRead}
-use Rattle.de.specs.declared.text.TextRead.the-variants.{Text, Refused}
-use Rattle.de.specs.Fields.{Field, found, isNamed, named, rootField}
-use Rattle.de.specs.Texts.{singleText, lastText, several, textOf}
-use Rattle.de.specs.Lists.{Listed, listed, prepend, isNext, elementText, inTurn, childCount, elements, intKeys, listOf}
-use Rattle.de.specs.Reads.{leaving, unread, textAnswer, textOfField, textAfter, textRead, listAnswer, listOutcome, listOfField, listAfter, unlisted, listRead}
+use Rattle.fields.specs.declared.DuplicateKeyBehavior.{DuplicateKeyBehavior}
+use Rattle.fields.specs.declared.text.TextRead.{TextRead}
+use Rattle.fields.specs.declared.text.TextRead.the-variants.{Text, Refused}
+use Rattle.fields.specs.Fields.{Field, found, isNamed, named, rootField}
+use Rattle.fields.specs.Texts.{singleText, lastText, several, textOf, textOfField}
+use Rattle.fields.specs.Lists.{Listed, listed, prepend, isNext, elementText, inTurn, childCount, elements, intKeys, listOf, listOfField}
+use Rattle.de.specs.Reads.{leaving, unread, textAnswer, textAfter, textRead, listAnswer, listOutcome, listAfter, unlisted, listRead}
 use Rattle.de.specs.Answered.{ValidText, TextAnswered, ValidElements, ListAnswered}
 use Rattle.de.proofs.Stored.{lies-le}
 use Rattle.de.proofs.Went.{Went, accepting, refusing, went}

@@ -5,7 +5,7 @@ use Rattle.decode.specs.Decoding.{decoded}
 use Rattle.ascii.specs.Digits.{allDigits, valueFrom}
 use Rattle.utf8.specs.Test.{second, first, next, run}
 use Rattle.reading.specs.Reading.{read}
-use Rattle.de.specs.Fields.{sameBytes}
+use Rattle.fields.specs.Fields.{sameBytes}
 use Rattle.de.specs.Reads.{textRead, listRead}
 use Rattle.de.specs.Examples.{TextTestsPass, ListTestsPass}
 

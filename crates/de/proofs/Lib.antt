@@ -1,11 +1,4 @@
-pub mod Comparisons
-pub mod Texts
-pub mod Siblings
-pub mod Fields
-pub mod Lists
 pub mod Stored
-pub mod Agree
-pub mod Few
 pub mod Went
 pub mod AfterReading
 pub mod Answered

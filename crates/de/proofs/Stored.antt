@@ -37,7 +37,7 @@ use Rattle.records.proofs.Held.{well-formed}
 use Rattle.tree.specs.Nodes.{labelWords, recordOf, below, nodes, rooted}
 use Rattle.tree.specs.Stored.{Stores}
 use Rattle.tree.proofs.Whole.{first-node, first-below}
-use Rattle.de.specs.OnRecords.{Readable}
+use Rattle.fields.specs.OnRecords.{Readable}
 
 -- Each value's record.
 module _ (w : List ℕ) where

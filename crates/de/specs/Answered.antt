@@ -7,7 +7,7 @@ use lib.ListN.{getD}
 use Rattle.config.specs.declared.Config.{Config}
 use Rattle.utf8.specs.Grammar.{Utf8}
 use Rattle.row.specs.Words.{textPart}
-use Rattle.de.specs.declared.DuplicateKeyBehavior.{DuplicateKeyBehavior}
+use Rattle.fields.specs.declared.DuplicateKeyBehavior.{DuplicateKeyBehavior}
 use Rattle.de.specs.Reads.{TextOutcome, textRead, ListOutcome, listRead}
 
 -- The text at an offset, of a length.

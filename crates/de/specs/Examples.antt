@@ -8,8 +8,8 @@ use Rattle.config.specs.declared.Config.{Config}
 use Rattle.config.specs.Defaults.{defaults}
 use Rattle.ascii.specs.Texts.{ascii}
 use Rattle.reading.specs.Tests.{atDepth, records as wordsOf, before}
-use Rattle.de.specs.declared.DuplicateKeyBehavior.{DuplicateKeyBehavior}
-use Rattle.de.specs.declared.DuplicateKeyBehavior.the-variants.{TakeLast, Error}
+use Rattle.fields.specs.declared.DuplicateKeyBehavior.{DuplicateKeyBehavior}
+use Rattle.fields.specs.declared.DuplicateKeyBehavior.the-variants.{TakeLast, Error}
 use Rattle.de.specs.declared.FieldRead.{FieldRead}
 use Rattle.de.specs.Reads.{textRead, listRead}
 

@@ -1,7 +1,4 @@
-pub mod Fields
-pub mod Texts
-pub mod Lists
 pub mod Reads
-pub mod OnRecords
+pub mod ListReads
 pub mod Answered
 pub mod Examples

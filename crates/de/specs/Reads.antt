@@ -12,13 +12,13 @@ use Rattle.config.specs.declared.Config.{Config}
 use Rattle.reading.specs.declared.Reading.{Reading}
 use Rattle.reading.specs.Values.{Node}
 use Rattle.reading.specs.Reading.{Outcome, read, after}
-use Rattle.de.specs.declared.DuplicateKeyBehavior.{DuplicateKeyBehavior}
+use Rattle.fields.specs.declared.DuplicateKeyBehavior.{DuplicateKeyBehavior}
 use Rattle.de.specs.declared.FieldRead.{FieldRead}
-use Rattle.de.specs.declared.text.TextRead.{TextRead}
-use Rattle.de.specs.declared.text.TextRead.the-variants.{Text, Refused}
-use Rattle.de.specs.Fields.{Field, found, refused, rootField}
-use Rattle.de.specs.Texts.{textOf}
-use Rattle.de.specs.Lists.{Listed, listed, listOf}
+use Rattle.fields.specs.declared.text.TextRead.{TextRead}
+use Rattle.fields.specs.declared.text.TextRead.the-variants.{Text, Refused}
+use Rattle.fields.specs.Fields.{rootField}
+use Rattle.fields.specs.Texts.{textOfField}
+use Rattle.fields.specs.Lists.{Listed, listed, refused, listOfField}
 
 -- What a call answers, with what the words and the text hold then.
 pub record TextOutcome : Type 0 where
@@ -49,12 +49,7 @@ abbrev pub textAnswer : Reading → TextRead → FieldRead
 textAnswer reading (Text offset len) = record { reading = reading; offset = offset; len = len }
 textAnswer reading (Refused x) = refusedAnswer reading x
 
--- "After a reading accepts, the call looks for a root name".
-abbrev pub textOfField : DuplicateKeyBehavior → Field → TextRead
-textOfField duplicates (found value) = textOf duplicates value
-textOfField duplicates (refused x) = Refused x
-
--- The text of the field of a name, after a reading that made this tree.
+-- "After a reading accepts, the call looks for a root name": the text of its field, in the tree that was made.
 abbrev pub textAfter : DuplicateKeyBehavior → List ℕ → Node → Outcome → TextOutcome
 textAfter duplicates name tree o =
     leaving o (textAnswer (o .answer) (textOfField duplicates (rootField name (tree .value))))
@@ -69,21 +64,16 @@ pub record ListOutcome : Type 0 where
   pub read : TextOutcome
   pub list : List ℕ
 
--- The field's list, into a slice of so many words.
-abbrev pub listOfField : DuplicateKeyBehavior → ℕ → Field → Listed
-listOfField duplicates size (found value) = listOf duplicates size value
-listOfField duplicates size (refused x) = Listed.refused x
-
 -- "the result's own length is the number of elements and its offset 0"
 abbrev pub listAnswer : Reading → Listed → FieldRead
 listAnswer reading (listed count words) = record { reading = reading; offset = 0; len = count }
-listAnswer reading (Listed.refused x) = refusedAnswer reading x
+listAnswer reading (refused x) = refusedAnswer reading x
 
 -- "It writes offset and length for each into a lent u32 slice, the rest zero"; "all zero under every later number". The
 -- slice has so many words.
 abbrev pub listWords : ℕ → Listed → List ℕ
 listWords size (listed count words) = words ++ replicate (size - length words) 0
-listWords size (Listed.refused x) = replicate size 0
+listWords size (refused x) = replicate size 0
 
 -- What is answered of a list, into a slice of so many words, after a reading that left this.
 abbrev pub listOutcome : Outcome → ℕ → Listed → ListOutcome

@@ -1,30 +1,21 @@
 // Field reads: a reading, then the field of a name in the root as a text or as a list; `deserialize_str` and
 // `deserialize_seq` of the source's src/de.rs. What is promised stands in specs/Reads, and of the texts that are
 // answered in specs/Answered.
-// Below it stand the reader (parse), the records and the tree that they hold (records, tree), the test for UTF-8
-// (utf8) and the definitions (reading).
-mod field; // the field of a name
-mod list; // the list of a record
-mod text; // the text of a record
-
+// Below it stand the reader (parse), the fields of a tree (fields), clearing and the definitions (reading).
 ghost use mathlib.Core.Path.{_≡_};
 ghost use Prim.Native.Nat.{_≤_};
 ghost use Rattle.de.specs.Reads.{refusedAnswer, textAnswer, textRead, leftIn, listRead};
-ghost use Rattle.de.specs.OnRecords.{elementCount, listReadAnswer, leftBy};
+ghost use Rattle.de.specs.ListReads.{elementCount, listReadAnswer, leftBy};
 use clearing::clear_words;
 use config::Config;
-use list::ListRead;
+use fields::DuplicateKeyBehavior;
+use fields::list;
+use fields::list::ListRead;
+use fields::text;
+use fields::text::TextRead;
 use reading::Reading;
 use refusals::Refusal;
 use refusals::code;
-use text::TextRead;
-
-// `DuplicateKeyBehavior` of the source: where a text is asked for and the field has several values, the last is taken
-// or they are refused.
-pub enum DuplicateKeyBehavior {
-    TakeLast,
-    Error,
-}
 
 // Document 01's result of a field read: the reading's, with the field's own number where it has one, and the text's
 // offset and length (of a list, 0 and the number of elements). C gets it as it stands.

@@ -30,7 +30,9 @@ stepBy config mode none raw = finish config mode then rootKey []
 -- At a place, a tree stands in the words and the text, a step is due, and what is read from there on is this answer.
 -- The bytes taken cover what is used and, once the step is made, what its mode may still need (reading's
 -- specs/Covering): so no count outgrows a u32, however much is lent.
-pub record Reads (config : Config) (input words text : List ℕ) (here : Here) (place : ℕ) (due : List Key → Step) (answer : Answer) : Type 0 where
+pub record Reads
+    (config : Config) (input words text : List ℕ) (here : Here) (place : ℕ) (due : List Key → Step) (answer : Answer)
+    : Type 0 where
   pub env : Environment
   pub path : List Key
   pub tree : Node
@@ -45,7 +47,9 @@ pub record Reads (config : Config) (input words text : List ℕ) (here : Here) (
   pub within : place ≤ length input + 1
 
 -- Some reading has come so far.
-pub record Ready (config : Config) (input words text : List ℕ) (here : Here) (place : ℕ) (due : List Key → Step) : Type 0 where
+pub record Ready
+    (config : Config) (input words text : List ℕ) (here : Here) (place : ℕ) (due : List Key → Step)
+    : Type 0 where
   pub answer : Answer
   pub reads : Reads config input words text here place due answer
 

@@ -52,13 +52,15 @@ opened input nested path = bracket path (nested .level) (segment input (nested .
 
 -- In a key, with the cursor's segment so far, which runs on to the place: below the depth, at the depth, and either.
 abbrev pub inKeyBelow : List ℕ → Nested → List Key → Mode
-inKeyBelow input nested path = keyBelowDepth path (nested .level) (segment input (nested .cursor .start) (nested .cursor .place))
+inKeyBelow input nested path =
+    keyBelowDepth path (nested .level) (segment input (nested .cursor .start) (nested .cursor .place))
 
 abbrev pub inKeyAt : List ℕ → Cursor → List Key → Mode
 inKeyAt input cursor path = keyAtDepth path (segment input (cursor .start) (cursor .place))
 
 abbrev pub inKey : Config → List ℕ → Nested → List Key → Mode
-inKey config input nested path = cond (ltb (nested .level) (config .depth)) (inKeyBelow input nested path) (inKeyAt input (nested .cursor) path)
+inKey config input nested path =
+    cond (ltb (nested .level) (config .depth)) (inKeyBelow input nested path) (inKeyAt input (nested .cursor) path)
 
 -- The key's first byte is taken.
 abbrev pub InKey : List ℕ → Cursor → Type 0
@@ -72,12 +74,22 @@ Further config input words text low answer (Deeper nested) =
 Further config input words text low answer (Turned turn) = Onward config input words text low answer turn
 
 -- A function reads the rest of a pair, whatever the answer is.
-pub record Turns (config : Config) (input words text words′ text′ : List ℕ) (here : Here) (place : ℕ) (due : List Key → Step) (low : ℕ) (turn : Turn) : Type 0 where
-  pub turns : (answer : Answer) → Reads config input words text here place due answer → Onward config input words′ text′ low answer turn
+pub record Turns
+    (config : Config) (input words text words′ text′ : List ℕ) (here : Here) (place : ℕ) (due : List Key → Step)
+    (low : ℕ) (turn : Turn)
+    : Type 0 where
+  pub turns :
+      (answer : Answer)
+      → Reads config input words text here place due answer → Onward config input words′ text′ low answer turn
 
 -- A function reads a level of brackets, or what is left of one.
-pub record Levels (config : Config) (input words text words′ text′ : List ℕ) (here : Here) (place : ℕ) (due : List Key → Step) (low : ℕ) (r : Level) : Type 0 where
-  pub levels : (answer : Answer) → Reads config input words text here place due answer → Further config input words′ text′ low answer r
+pub record Levels
+    (config : Config) (input words text words′ text′ : List ℕ) (here : Here) (place : ℕ) (due : List Key → Step)
+    (low : ℕ) (r : Level)
+    : Type 0 where
+  pub levels :
+      (answer : Answer)
+      → Reads config input words text here place due answer → Further config input words′ text′ low answer r
 
 -- The whole input is read: what is accepted stands in the words and the text.
 pub record Accepts (answer : Answer) (words text : List ℕ) (here : Here) : Type 0 where

@@ -41,8 +41,10 @@ fn parse_sequence_value(
     here: Here,
     place: usize,
 ) -> Turn
-    requires { ⌜ Ready config (now input) (now words) (now text) here place (still (λ path. afterBrackets path)) × (place ≤ length (now input)) ⌝ }
-    ensures { λ r. ⌜ Turns config (now (input .entry)) (now (words .entry)) (now (text .entry)) (now (words .exit)) (now (text .exit)) here place
+    requires { ⌜ Ready config (now input) (now words) (now text) here place (still (λ path. afterBrackets path))
+        × (place ≤ length (now input)) ⌝ }
+    ensures { λ r. ⌜ Turns config (now (input .entry)) (now (words .entry)) (now (text .entry)) (now (words .exit))
+        (now (text .exit)) here place
         (still (λ path. afterBrackets path)) place r ⌝ }
 {
     let taken = take(input, config, clear_acc(place));
@@ -68,9 +70,11 @@ fn parse_brackets(
     here: Here,
     place: usize,
 ) -> Turn
-    requires { ⌜ Ready config (now input) (now words) (now text) here place (λ path. needSequence path then afterBrackets path)
+    requires { ⌜ Ready config (now input) (now words) (now text) here place
+        (λ path. needSequence path then afterBrackets path)
         × (place ≤ length (now input)) ⌝ }
-    ensures { λ r. ⌜ Turns config (now (input .entry)) (now (words .entry)) (now (text .entry)) (now (words .exit)) (now (text .exit)) here place
+    ensures { λ r. ⌜ Turns config (now (input .entry)) (now (words .entry)) (now (text .entry)) (now (words .exit))
+        (now (text .exit)) here place
         (λ path. needSequence path then afterBrackets path) place r ⌝ }
 {
     match needing::expect_sequence(words, here) {
@@ -91,8 +95,10 @@ fn after_key(
     requires { ⌜ Ready config (now input) (now words) (now text) (nested .here) (nested .cursor .place)
         (still (λ path. afterKey path (nested .level) (decodedKey (now input) key))) × KeyBounds (now input) key
         × (nested .cursor .place ≤ length (now input)) × (nested .level + 1 < 2 ^ 64) ⌝ }
-    ensures { λ r. ⌜ Levels config (now (input .entry)) (now (words .entry)) (now (text .entry)) (now (words .exit)) (now (text .exit)) (nested .here)
-        (nested .cursor .place) (still (λ path. afterKey path (nested .level) (decodedKey (now (input .entry)) key))) (nested .cursor .place) r ⌝ }
+    ensures { λ r. ⌜ Levels config (now (input .entry)) (now (words .entry)) (now (text .entry)) (now (words .exit))
+        (now (text .exit)) (nested .here)
+        (nested .cursor .place) (still (λ path. afterKey path (nested .level) (decodedKey (now (input .entry)) key)))
+        (nested .cursor .place) r ⌝ }
 {
     let here = nested.here;
     let closed = nested.cursor;
@@ -128,9 +134,11 @@ fn key_below_depth(
     text: &mut [u8],
     nested: Nested,
 ) -> Level
-    requires { ⌜ Ready config (now input) (now words) (now text) (nested .here) (nested .cursor .place) (still (inKeyBelow (now input) nested))
+    requires { ⌜ Ready config (now input) (now words) (now text) (nested .here) (nested .cursor .place)
+        (still (inKeyBelow (now input) nested))
         × InKey (now input) (nested .cursor) × (nested .level + 1 < 2 ^ 64) ⌝ }
-    ensures { λ r. ⌜ Levels config (now (input .entry)) (now (words .entry)) (now (text .entry)) (now (words .exit)) (now (text .exit)) (nested .here)
+    ensures { λ r. ⌜ Levels config (now (input .entry)) (now (words .entry)) (now (text .entry)) (now (words .exit))
+        (now (text .exit)) (nested .here)
         (nested .cursor .place) (still (inKeyBelow (now (input .entry)) nested)) (nested .cursor .place) r ⌝ }
 {
     let start = nested.cursor;
@@ -165,8 +173,10 @@ fn key_at_depth(
     here: Here,
     start: Cursor,
 ) -> Turn
-    requires { ⌜ Ready config (now input) (now words) (now text) here (start .place) (still (inKeyAt (now input) start)) × InKey (now input) start ⌝ }
-    ensures { λ r. ⌜ Turns config (now (input .entry)) (now (words .entry)) (now (text .entry)) (now (words .exit)) (now (text .exit)) here
+    requires { ⌜ Ready config (now input) (now words) (now text) here (start .place)
+        (still (inKeyAt (now input) start)) × InKey (now input) start ⌝ }
+    ensures { λ r. ⌜ Turns config (now (input .entry)) (now (words .entry)) (now (text .entry)) (now (words .exit))
+        (now (text .exit)) here
         (start .place) (still (inKeyAt (now (input .entry)) start)) (start .place) r ⌝ }
 {
     let taken = take_until(input, config, Until::KeyAtDepth, start);
@@ -191,9 +201,11 @@ fn parse_key(
     text: &mut [u8],
     nested: Nested,
 ) -> Level
-    requires { ⌜ Ready config (now input) (now words) (now text) (nested .here) (nested .cursor .place) (still (inKey config (now input) nested))
+    requires { ⌜ Ready config (now input) (now words) (now text) (nested .here) (nested .cursor .place)
+        (still (inKey config (now input) nested))
         × InKey (now input) (nested .cursor) ⌝ }
-    ensures { λ r. ⌜ Levels config (now (input .entry)) (now (words .entry)) (now (text .entry)) (now (words .exit)) (now (text .exit)) (nested .here)
+    ensures { λ r. ⌜ Levels config (now (input .entry)) (now (words .entry)) (now (text .entry)) (now (words .exit))
+        (now (text .exit)) (nested .here)
         (nested .cursor .place) (still (inKey config (now (input .entry)) nested)) (nested .cursor .place) r ⌝ }
 {
     if nested.level < config.depth {
@@ -214,8 +226,10 @@ fn open_key(
 ) -> Level
     requires { ⌜ Ready config (now input) (now words) (now text) (nested .here) (nested .cursor .place)
         (λ path. needMap path then inKey config (now input) nested path) × InKey (now input) (nested .cursor) ⌝ }
-    ensures { λ r. ⌜ Levels config (now (input .entry)) (now (words .entry)) (now (text .entry)) (now (words .exit)) (now (text .exit)) (nested .here)
-        (nested .cursor .place) (λ path. needMap path then inKey config (now (input .entry)) nested path) (nested .cursor .place) r ⌝ }
+    ensures { λ r. ⌜ Levels config (now (input .entry)) (now (words .entry)) (now (text .entry)) (now (words .exit))
+        (now (text .exit)) (nested .here)
+        (nested .cursor .place) (λ path. needMap path then inKey config (now (input .entry)) nested path)
+        (nested .cursor .place) r ⌝ }
 {
     let here = nested.here;
     let cursor = nested.cursor;
@@ -250,9 +264,11 @@ fn parse_level(
     text: &mut [u8],
     nested: Nested,
 ) -> Level
-    requires { ⌜ Ready config (now input) (now words) (now text) (nested .here) (nested .cursor .place) (still (opened (now input) nested))
+    requires { ⌜ Ready config (now input) (now words) (now text) (nested .here) (nested .cursor .place)
+        (still (opened (now input) nested))
         × Inside (now input) nested ⌝ }
-    ensures { λ r. ⌜ Levels config (now (input .entry)) (now (words .entry)) (now (text .entry)) (now (words .exit)) (now (text .exit)) (nested .here)
+    ensures { λ r. ⌜ Levels config (now (input .entry)) (now (words .entry)) (now (text .entry)) (now (words .exit))
+        (now (text .exit)) (nested .here)
         (nested .cursor .place) (still (opened (now (input .entry)) nested)) (nested .cursor .place + 1) r ⌝ }
 {
     let here = nested.here;
@@ -289,10 +305,13 @@ pub(crate) fn parse_nested_key(
     cursor: Cursor,
 ) -> Turn
     requires { ⌜ Ready config (now input) (now words) (now text) here (cursor .place)
-        (still (λ path. bracket path 0 (segment (now input) (cursor .end) (cursor .place)))) × (cursor .end ≤ cursor .place)
+        (still (λ path. bracket path 0 (segment (now input) (cursor .end) (cursor .place))))
+        × (cursor .end ≤ cursor .place)
         × (cursor .place ≤ length (now input)) ⌝ }
-    ensures { λ r. ⌜ Turns config (now (input .entry)) (now (words .entry)) (now (text .entry)) (now (words .exit)) (now (text .exit)) here
-        (cursor .place) (still (λ path. bracket path 0 (segment (now (input .entry)) (cursor .end) (cursor .place)))) (cursor .place) r ⌝ }
+    ensures { λ r. ⌜ Turns config (now (input .entry)) (now (words .entry)) (now (text .entry)) (now (words .exit))
+        (now (text .exit)) here
+        (cursor .place) (still (λ path. bracket path 0 (segment (now (input .entry)) (cursor .end) (cursor .place))))
+        (cursor .place) r ⌝ }
 {
     let mut nested = Nested {
         here,

@@ -100,7 +100,8 @@ pub(crate) fn insert_unique(
     key: Key,
     leaf: Leaf,
 ) -> Performed
-    requires { ⌜ Able (now input) (now words) (now text) here × KeyBounds (now input) key × LeafBounds (now input) leaf ⌝ }
+    requires { ⌜ Able (now input) (now words) (now text) here × KeyBounds (now input) key
+        × LeafBounds (now input) leaf ⌝ }
     ensures { λ r. ⌜ Does (now (words .entry)) (now (text .entry)) (now (words .exit)) (now (text .exit)) here
         (λ env path. perform env
         (add (under path (decodedKey (now (input .entry)) key)) (decodedLeaf (now (input .entry)) leaf)))

@@ -63,8 +63,10 @@ fn enter_root(
         (λ path. enter path (decodedKey (now input) key) then bracket (path ++ (decodedKey (now input) key ∷ [])) 0
         (segment (now input) (cursor .end) (cursor .place)))
         × KeyBounds (now input) key × (cursor .end ≤ cursor .place) × (cursor .place ≤ length (now input)) ⌝ }
-    ensures { λ r. ⌜ Turns config (now (input .entry)) (now (words .entry)) (now (text .entry)) (now (words .exit)) (now (text .exit)) here
-        (cursor .place) (λ path. enter path (decodedKey (now (input .entry)) key) then bracket (path ++ (decodedKey (now (input .entry)) key ∷ [])) 0
+    ensures { λ r. ⌜ Turns config (now (input .entry)) (now (words .entry)) (now (text .entry)) (now (words .exit))
+        (now (text .exit)) here
+        (cursor .place) (λ path. enter path (decodedKey (now (input .entry)) key)
+        then bracket (path ++ (decodedKey (now (input .entry)) key ∷ [])) 0
         (segment (now (input .entry)) (cursor .end) (cursor .place))) (cursor .place) r ⌝ }
 {
     match commands::enter(input, words, text, here, key) {
@@ -82,9 +84,11 @@ fn keyless(
     here: Here,
     taken: Taken,
 ) -> Turn
-    requires { ⌜ Ready config (now input) (now words) (now text) here (taken .cursor .place) (rootStep config (now input) [] taken) × (here .node ≡ 0)
+    requires { ⌜ Ready config (now input) (now words) (now text) here (taken .cursor .place)
+        (rootStep config (now input) [] taken) × (here .node ≡ 0)
         × Stopped config (now input) taken ⌝ }
-    ensures { λ r. ⌜ Turns config (now (input .entry)) (now (words .entry)) (now (text .entry)) (now (words .exit)) (now (text .exit)) here
+    ensures { λ r. ⌜ Turns config (now (input .entry)) (now (words .entry)) (now (text .entry)) (now (words .exit))
+        (now (text .exit)) here
         (taken .cursor .place) (rootStep config (now (input .entry)) [] taken) (taken .cursor .place) r ⌝ }
 {
     let cursor = taken.cursor;
@@ -110,11 +114,15 @@ fn keyed(
     taken: Taken,
 ) -> Turn
     requires { ⌜ Ready config (now input) (now words) (now text) here (taken .cursor .place)
-        (rootStep config (now input) (segment (now input) (taken .cursor .start) (taken .cursor .end)) taken) × (here .node ≡ 0)
+        (rootStep config (now input) (segment (now input) (taken .cursor .start) (taken .cursor .end)) taken)
+        × (here .node ≡ 0)
         × Stopped config (now input) taken × KeyIs config (now input) (taken .cursor .start) (taken .cursor .end) key
         × (0 < length (segment (now input) (taken .cursor .start) (taken .cursor .end))) ⌝ }
-    ensures { λ r. ⌜ Turns config (now (input .entry)) (now (words .entry)) (now (text .entry)) (now (words .exit)) (now (text .exit)) here
-        (taken .cursor .place) (rootStep config (now (input .entry)) (segment (now (input .entry)) (taken .cursor .start) (taken .cursor .end)) taken)
+    ensures { λ r. ⌜ Turns config (now (input .entry)) (now (words .entry)) (now (text .entry)) (now (words .exit))
+        (now (text .exit)) here
+        (taken .cursor .place)
+        (rootStep config (now (input .entry))
+        (segment (now (input .entry)) (taken .cursor .start) (taken .cursor .end)) taken)
         (taken .cursor .place) r ⌝ }
 {
     let cursor = taken.cursor;
@@ -141,8 +149,10 @@ fn parse_pair(
     here: Here,
     place: usize,
 ) -> Turn
-    requires { ⌜ Ready config (now input) (now words) (now text) here place (still (λ path. rootKey [])) × (place ≤ length (now input)) ⌝ }
-    ensures { λ r. ⌜ Turns config (now (input .entry)) (now (words .entry)) (now (text .entry)) (now (words .exit)) (now (text .exit)) here place
+    requires { ⌜ Ready config (now input) (now words) (now text) here place (still (λ path. rootKey []))
+        × (place ≤ length (now input)) ⌝ }
+    ensures { λ r. ⌜ Turns config (now (input .entry)) (now (words .entry)) (now (text .entry)) (now (words .exit))
+        (now (text .exit)) here place
         (still (λ path. rootKey [])) (place + 1) r ⌝ }
 {
     let taken = take_until(
@@ -161,7 +171,8 @@ fn parse_pair(
 
 // The pairs of the input, into a tree that is an Uninitialized root.
 pub fn parse_pairs(input: &[u8], config: Config, words: &mut [u32], text: &mut [u8]) -> Turn
-    requires { ⌜ Ready config (now input) (now words) (now text) (record { records = 1; bytes = 0; node = 0 }) 0 (still (λ path. rootKey [])) ⌝ }
+    requires { ⌜ Ready config (now input) (now words) (now text) (record { records = 1; bytes = 0; node = 0 }) 0
+        (still (λ path. rootKey [])) ⌝ }
     ensures { λ r. ⌜ ((answer : Answer) → Reads config (now (input .entry)) (now (words .entry)) (now (text .entry))
         (record { records = 1; bytes = 0; node = 0 }) 0 (still (λ path. rootKey [])) answer
         → Ends answer (now (words .exit)) (now (text .exit)) r) ⌝ }

@@ -25,9 +25,11 @@ pub(crate) fn value_under(
     key: Key,
     place: usize,
 ) -> Turn
-    requires { ⌜ Ready config (now input) (now words) (now text) here place (still (λ path. value (under path (decodedKey (now input) key)) []))
+    requires { ⌜ Ready config (now input) (now words) (now text) here place
+        (still (λ path. value (under path (decodedKey (now input) key)) []))
         × KeyBounds (now input) key × (place ≤ length (now input)) ⌝ }
-    ensures { λ r. ⌜ Turns config (now (input .entry)) (now (words .entry)) (now (text .entry)) (now (words .exit)) (now (text .exit)) here place
+    ensures { λ r. ⌜ Turns config (now (input .entry)) (now (words .entry)) (now (text .entry)) (now (words .exit))
+        (now (text .exit)) here place
         (still (λ path. value (under path (decodedKey (now (input .entry)) key)) [])) place r ⌝ }
 {
     let value = collect_value(input, config, place);
@@ -47,8 +49,10 @@ pub(crate) fn value_last(
     here: Here,
     place: usize,
 ) -> Turn
-    requires { ⌜ Ready config (now input) (now words) (now text) here place (still (λ path. value (last path) [])) × (place ≤ length (now input)) ⌝ }
-    ensures { λ r. ⌜ Turns config (now (input .entry)) (now (words .entry)) (now (text .entry)) (now (words .exit)) (now (text .exit)) here place
+    requires { ⌜ Ready config (now input) (now words) (now text) here place (still (λ path. value (last path) []))
+        × (place ≤ length (now input)) ⌝ }
+    ensures { λ r. ⌜ Turns config (now (input .entry)) (now (words .entry)) (now (text .entry)) (now (words .exit))
+        (now (text .exit)) here place
         (still (λ path. value (last path) [])) place r ⌝ }
 {
     let value = collect_value(input, config, place);
@@ -65,9 +69,11 @@ pub(crate) fn value_root(
     here: Here,
     place: usize,
 ) -> Turn
-    requires { ⌜ Ready config (now input) (now words) (now text) here place (still (λ path. value root [])) × (here .node ≡ 0)
+    requires { ⌜ Ready config (now input) (now words) (now text) here place (still (λ path. value root []))
+        × (here .node ≡ 0)
         × (place ≤ length (now input)) ⌝ }
-    ensures { λ r. ⌜ Turns config (now (input .entry)) (now (words .entry)) (now (text .entry)) (now (words .exit)) (now (text .exit)) here place
+    ensures { λ r. ⌜ Turns config (now (input .entry)) (now (words .entry)) (now (text .entry)) (now (words .exit))
+        (now (text .exit)) here place
         (still (λ path. value root [])) place r ⌝ }
 {
     let value = collect_value(input, config, place);

@@ -4,8 +4,8 @@ use mathlib.Core.Bool.{cond, not}
 use lib.Dec.{eqb}
 use Rattle.config.specs.declared.Config.{Config}
 use Rattle.config.specs.Defaults as config
-use Rattle.de.specs.declared.DuplicateKeyBehavior.{DuplicateKeyBehavior}
-use Rattle.de.specs.declared.DuplicateKeyBehavior.the-variants.{TakeLast, Error}
+use Rattle.fields.specs.declared.DuplicateKeyBehavior.{DuplicateKeyBehavior}
+use Rattle.fields.specs.declared.DuplicateKeyBehavior.the-variants.{TakeLast, Error}
 
 -- The flag is off at 0 and on at anything else.
 abbrev pub settings : ℕ → ℕ → Config

@@ -1,8 +1,8 @@
 // The functions exported to C and Rust, each a thin cover of a proved one; `rt staticlib qs` writes them to one
 // archive. A slice is passed as a pointer and the count of its elements. The definitions are those of the crates
 // below, in C's numbers (specs/Numbers, specs/Arguments).
-// Below it stand the reader (parse), field reads (de), decoding (decode), the test for UTF-8 (utf8) and the settings
-// (config), the answer's struct (reading).
+// Below it stand the reader (parse), field reads (de, fields), decoding (decode), the test for UTF-8 (utf8), the
+// settings (config) and the answer's struct (reading).
 ghost use mathlib.Core.Path.{_≡_};
 ghost use Rattle.decode.specs.Decoding.{answer, written};
 ghost use Rattle.utf8.specs.Test.{utf8};
@@ -11,9 +11,9 @@ ghost use Rattle.de.specs.Reads.{textRead, listRead};
 ghost use Rattle.qs.specs.Numbers.{lengthOrNo, oneOrZero, OneForUtf8};
 ghost use Rattle.qs.specs.Arguments.{settings, behavior};
 use config::Config;
-use de::DuplicateKeyBehavior;
 use de::FieldRead;
 use decode::Decoded;
+use fields::DuplicateKeyBehavior;
 use reading::Reading;
 
 // Decodes `raw` into `out`: the decoded length, with the further bytes of `out` as they were; or -1 where the decoded

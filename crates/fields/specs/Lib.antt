@@ -1,0 +1,4 @@
+pub mod Fields
+pub mod Texts
+pub mod Lists
+pub mod OnRecords

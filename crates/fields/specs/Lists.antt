@@ -1,0 +1,77 @@
+-- Document 01, 'Field reads': "List (`deserialize_seq`)".
+use Prim.Native.Nat.{ℕ, suc, _*_}
+use mathlib.Core.Bool.{Bool, true, false, cond}
+use mathlib.Core.List.{List, [], _∷_}
+use lib.Dec.{eqb, ltb}
+use Rattle.reading.specs.Values.{Label, unkeyed, intKey, stringKey, bare, Value, uninitialized, null, noValue, string}
+use Rattle.reading.specs.Values.{map, sequence, Forest, none, child}
+use Rattle.fields.specs.declared.DuplicateKeyBehavior.{DuplicateKeyBehavior}
+use Rattle.refusals.specs.declared.Refusal.{Refusal}
+use Rattle.refusals.specs.declared.Refusal.the-variants.{WrongKind, MissingIndex, ShortSlice}
+use Rattle.fields.specs.declared.text.TextRead.{TextRead}
+use Rattle.fields.specs.declared.text.TextRead.the-variants.{Text, Refused}
+use Rattle.fields.specs.Fields.{Field, found}
+use Rattle.fields.specs.Texts.{textOf}
+
+-- The number of elements, and "offset and length for each"; or a refusal.
+pub data Listed : Type 0 where
+  listed : ℕ → List ℕ → Listed
+  refused : Refusal → Listed
+
+-- An element's text before those of the later ones. "The first met stands."
+abbrev pub prepend : TextRead → Listed → Listed
+prepend (Text o n) (listed count words) = listed (suc count) (o ∷ n ∷ words)
+prepend (Text o n) (refused x) = refused x
+prepend (Refused x) later = refused x
+
+-- Whether the element of index i may have this key: a Sequence's has none; a Map's is "in order from 0". A String is
+-- no index.
+abbrev pub isNext : ℕ → Label → Bool
+isNext i unkeyed = true
+isNext i (intKey a) = eqb a i
+isNext i (stringKey o x) = false
+
+-- "at each element's turn 20 index missing", then as a text read.
+abbrev pub elementText : DuplicateKeyBehavior → ℕ → Label → Value → TextRead
+elementText duplicates i label value = cond (isNext i label) (textOf duplicates value) (Refused MissingIndex)
+
+-- "Elements are read in turn as text", from index i on.
+abbrev pub inTurn : DuplicateKeyBehavior → ℕ → Forest → Listed
+inTurn duplicates i none = listed 0 []
+inTurn duplicates i (child number row value later) =
+    prepend (elementText duplicates i (row .label) value) (inTurn duplicates (suc i) later)
+
+-- How many elements there are.
+abbrev pub childCount : Forest → ℕ
+childCount none = 0
+childCount (child number row value later) = suc (childCount later)
+
+-- "22 slice below two words an element; then at each element's turn"
+abbrev pub elements : DuplicateKeyBehavior → ℕ → Forest → Listed
+elements duplicates size children =
+    cond (ltb size (2 * childCount children)) (refused ShortSlice) (inTurn duplicates 0 children)
+
+abbrev pub isIntKey : Label → Bool
+isIntKey unkeyed = false
+isIntKey (intKey a) = true
+isIntKey (stringKey o x) = false
+
+-- "Map of Int keys only"
+abbrev pub intKeys : Forest → Bool
+intKeys none = true
+intKeys (child number row value later) = cond (isIntKey (row .label)) (intKeys later) false
+
+-- "Null or NoValue, none; String, one; Sequence, all; Map of Int keys only", into a slice of so many words. (The
+-- record number and the key of the one element that a String is are not looked at.)
+abbrev pub listOf : DuplicateKeyBehavior → ℕ → Value → Listed
+listOf duplicates size uninitialized = refused WrongKind
+listOf duplicates size null = listed 0 []
+listOf duplicates size noValue = listed 0 []
+listOf duplicates size (string o x) = elements duplicates size (child 0 bare (string o x) none)
+listOf duplicates size (map children) = cond (intKeys children) (elements duplicates size children) (refused WrongKind)
+listOf duplicates size (sequence children) = elements duplicates size children
+
+-- The list of a field, into a slice of so many words.
+abbrev pub listOfField : DuplicateKeyBehavior → ℕ → Field → Listed
+listOfField duplicates size (found value) = listOf duplicates size value
+listOfField duplicates size (Field.refused x) = refused x
