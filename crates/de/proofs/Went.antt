@@ -1,10 +1,9 @@
 -- How a reading went: it accepted, with a tree of which all is proved that readings make; or it refused, by a number above 0.
-use Prim.Native.Nat.{ℕ, _≤_}
+use Prim.Native.Nat.{ℕ}
 use mathlib.Core.Path.{_≡_, refl}
 use mathlib.Core.List.{List}
 use native.Mathlib.Omega.{arith}
 use lib.ListN.{length}
-use Rattle.row.specs.Row.{recordWidth}
 use Rattle.refusals.specs.declared.Refusal.{Refusal}
 use Rattle.refusals.specs.declared.Refusal.the-variants.{TooDeep, TooLong, NoRecord}
 use Rattle.refusals.specs.Codes.{code}
@@ -12,7 +11,7 @@ use Rattle.config.specs.declared.Config.{Config}
 use Rattle.reading.specs.Values.{Node}
 use Rattle.reading.specs.Charging.{Used}
 use Rattle.reading.specs.Running.{Answer, accepted}
-use Rattle.reading.specs.Reading.{Outcome, lentBy, parsed, outcome, Read, passed, met, readOf, read}
+use Rattle.reading.specs.Reading.{Outcome, lentBy, outcome, Read, passed, met, readOf, read}
 use Rattle.reading.proofs.Runs.{Ends, accepts, refusesAt}
 use Rattle.reading.proofs.Reaching.{Numbered}
 use Rattle.reading.proofs.Outcomes.{Sound, read-cases, parsed-sound}

@@ -1,7 +1,6 @@
 -- Facts of what a rule makes, or of its refusal, by the shape of the rules: no equations.
 use Prim.Native.Nat.{ℕ, _+_, _<_, Ordering, Ordering·lt, Ordering·eq, Ordering·gt}
 use mathlib.Core.Path.{_≡_, refl}
-use mathlib.Core.Bool.{Bool, true, false, cond}
 use mathlib.Core.List.{List}
 use native.Mathlib.Omega.{arith}
 use borrow.Author.Tests.{ltb-true, ltb-false}

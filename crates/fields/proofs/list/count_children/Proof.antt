@@ -5,7 +5,6 @@ use Rattle.records.proofs.Chains.{is-record, chain-falls}
 use Rattle.records.specs.Siblings.{chain, children}
 use Rattle.row.specs.Words.{recordCount}
 use Rattle.fields.proofs.Lists.{Counting, counted, counting-start, counting-more, counting-done}
-use Rattle.fields.proofs.Lists.{Counting, counting-start, counting-more, counting-done}
 use Rattle.fields.proofs.list.count_children.Statement.{statement}
 use Rattle.fields.proofs.list.count_children.Tie as tie
 

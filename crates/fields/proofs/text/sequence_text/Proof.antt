@@ -2,7 +2,6 @@ use mathlib.Core.Path.{sym, _∙_}
 use borrow.Author.Needs.{needs}
 use Rattle.records.proofs.Chains.{last-inside}
 use Rattle.fields.specs.OnRecords.{sequenceTextAt}
-use Rattle.fields.specs.OnRecords.{sequenceTextAt}
 use Rattle.fields.proofs.Comparisons.{same-word, other-word}
 use Rattle.fields.proofs.Texts.{first-is-record}
 use Rattle.fields.proofs.text.sequence_text.Statement.{statement}
