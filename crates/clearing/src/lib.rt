@@ -1,4 +1,4 @@
-// Lent slices made zero: a reading's before it starts and after a refusal, and that of a list.
+// Lent slices made zero: what a reading doesn't use, all of them after a refusal, and that of a list.
 // Below it stand laws.
 ghost use mathlib.Core.Path.{_≡_};
 ghost use lib.ListN.{length, replicate};

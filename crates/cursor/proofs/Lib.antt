@@ -2,4 +2,5 @@ pub mod Segments
 pub mod Takings
 pub mod From
 pub mod Scans
+pub mod Ampersands
 pub mod Collected

@@ -3,7 +3,7 @@ use mathlib.Core.Path.{_≡_, refl, sym, ap, _∙_}
 use mathlib.Core.Bool.{Bool, true, false, not}
 use mathlib.Core.Option.{Option, none, some}
 use mathlib.Core.List.{List, [], _∷_, _++_, append-assoc, append-nil}
-use Prim.Native.Nat.{ℕ, _+_, _≤_, _<_}
+use Prim.Native.Nat.{ℕ, _+_, _-_, _≤_, _<_}
 use native.Mathlib.Omega.{arith}
 use lib.Dec.{eqb}
 use lib.ListN.{length}
@@ -51,14 +51,15 @@ Lengthens config until m = (x : List ℕ) (y : Symbol) (raw : List ℕ) → stop
 
 -- One induction for every kind of scan.
 passed-from : {until : Until} {config : Config} {s : List ℕ} {i j : ℕ} → Passed until config s i j → (m : List ℕ → Mode) → Lengthens config until m
-    → (x : List ℕ) (env : Environment) (tree : Node) (used : Used) → from config env s i (m x) tree used ≡ from config env s j
-    (m (x ++ segment s i j)) tree used
-passed-from {s = s} {i = i} here m g x env tree used = rw (segment-none s i, append-nil x)
-passed-from {config = config} {s = s} {i = i} {j = k} (more {i = j} {symbol = y} p w e) m g x env tree used =
-    passed-from p m g x env tree used
-    ∙ from-skip w (m (x ++ segment s i j)) (m ((x ++ segment s i j) ++ segment s j k)) (g (x ++ segment s i j) y (segment s j k) e) env tree used
-    ∙ ap (λ (z : List ℕ). from config env s k (m z) tree used)
-    (append-assoc x (segment s i j) (segment s j k) ∙ ap (x ++_) (segment-join s i j k (passed-le p) (omega (arith, w .on))))
+    → (x : List ℕ) (p : ℕ) (env : Environment) (tree : Node) (used : Used)
+    → from config env s i p (m x) tree used ≡ from config env s j (p + (j - i)) (m (x ++ segment s i j)) tree used
+passed-from {s = s} {i = i} here m g x p env tree used = let e : p + (i - i) ≡ p = omega arith in rw (segment-none s i, append-nil x, e)
+passed-from {config = config} {s = s} {i = i} {j = k} (more {i = j} {symbol = y} q w e) m g x p env tree used =
+    passed-from q m g x p env tree used
+    ∙ from-skip w (m (x ++ segment s i j)) (m ((x ++ segment s i j) ++ segment s j k)) (g (x ++ segment s i j) y (segment s j k) e) (p + (j - i)) env tree used
+    ∙ ap (λ (n : ℕ). from config env s k n (m ((x ++ segment s i j) ++ segment s j k)) tree used) (omega (arith, passed-le q, w .on))
+    ∙ ap (λ (z : List ℕ). from config env s k (p + (k - i)) (m z) tree used)
+    (append-assoc x (segment s i j) (segment s j k) ∙ ap (x ++_) (segment-join s i j k (passed-le q) (omega (arith, w .on))))
 
 no-nesting : (b : Bool) → not b ≡ false → b ≡ true
 no-nesting true e = refl
@@ -95,22 +96,25 @@ module _ (config : Config) where
   root-lengthens nests q x closing raw e = refl
   root-lengthens nests q x other raw e = refl
 
+-- What a scan leaves of the reading: the place moves on by as many bytes as the index.
 module _ {config : Config} {s : List ℕ} {i j : ℕ} where
-  pub scan-value : Passed ValueScan config s i j → (target : Target) (env : Environment) (tree : Node) (used : Used)
-      → from config env s i (value target []) tree used ≡ from config env s j (value target (segment s i j)) tree used
-  scan-value p target = passed-from p (value target) (value-lengthens config target) []
+  pub scan-value : Passed ValueScan config s i j → (target : Target) (p : ℕ) (env : Environment) (tree : Node) (used : Used)
+      → from config env s i p (value target []) tree used ≡ from config env s j (p + (j - i)) (value target (segment s i j)) tree used
+  scan-value q target = passed-from q (value target) (value-lengthens config target) []
 
-  pub scan-below-depth : Passed Closing config s i j → (path : List Key) (level : ℕ) (x : List ℕ) (env : Environment) (tree : Node) (used : Used)
-      → from config env s i (keyBelowDepth path level x) tree used ≡ from config env s j (keyBelowDepth path level (x ++ segment s i j)) tree used
-  scan-below-depth p path level = passed-from p (keyBelowDepth path level) (below-depth-lengthens config path level)
+  pub scan-below-depth : Passed Closing config s i j → (path : List Key) (level : ℕ) (x : List ℕ) (p : ℕ) (env : Environment) (tree : Node) (used : Used)
+      → from config env s i p (keyBelowDepth path level x) tree used
+      ≡ from config env s j (p + (j - i)) (keyBelowDepth path level (x ++ segment s i j)) tree used
+  scan-below-depth q path level = passed-from q (keyBelowDepth path level) (below-depth-lengthens config path level)
 
-  pub scan-at-depth : Passed KeyAtDepth config s i j → (path : List Key) (x : List ℕ) (env : Environment) (tree : Node) (used : Used)
-      → from config env s i (keyAtDepth path x) tree used ≡ from config env s j (keyAtDepth path (x ++ segment s i j)) tree used
-  scan-at-depth p path = passed-from p (keyAtDepth path) (at-depth-lengthens config path)
+  pub scan-at-depth : Passed KeyAtDepth config s i j → (path : List Key) (x : List ℕ) (p : ℕ) (env : Environment) (tree : Node) (used : Used)
+      → from config env s i p (keyAtDepth path x) tree used ≡ from config env s j (p + (j - i)) (keyAtDepth path (x ++ segment s i j)) tree used
+  scan-at-depth q path = passed-from q (keyAtDepth path) (at-depth-lengthens config path)
 
-  pub scan-root : (nests : Bool) → nests ≡ not (eqb (config .depth) 0) → Passed (RootKey nests) config s i j → (env : Environment) (tree : Node) (used : Used)
-      → from config env s i (rootKey []) tree used ≡ from config env s j (rootKey (segment s i j)) tree used
-  scan-root nests q p = passed-from p rootKey (root-lengthens config nests q) []
+  pub scan-root : (nests : Bool) → nests ≡ not (eqb (config .depth) 0) → Passed (RootKey nests) config s i j
+      → (p : ℕ) (env : Environment) (tree : Node) (used : Used)
+      → from config env s i p (rootKey []) tree used ≡ from config env s j (p + (j - i)) (rootKey (segment s i j)) tree used
+  scan-root nests e q = passed-from q rootKey (root-lengthens config nests e) []
 
 -- The loop of `take_until`, which started at a cursor and has come to another.
 pub record Passing (until : Until) (config : Config) (s : List ℕ) (cursor₀ cursor : Cursor) : Type 0 where
@@ -127,7 +131,8 @@ passed-more (some y) w e p = (more p w e, w .within)
 passed-more none w e p = true-false e
 
 module _ {until : Until} {config : Config} {s : List ℕ} {cursor₀ cursor : Cursor} {taken : Taken} {found : Stops} {ends : Bool}
-    (v : Passing until config s cursor₀ cursor) (n : Next config s cursor taken) (p : found ≡ stopsOf until) (q : ends ≡ stopsAt found (yielded (taken .symbol))) where
+    (v : Passing until config s cursor₀ cursor) (n : Next config s cursor taken)
+    (p : found ≡ stopsOf until) (q : ends ≡ stopsAt found (yielded (taken .symbol))) where
   told : ends ≡ stops until (yielded (taken .symbol))
   told = rw p at q
 

@@ -42,7 +42,8 @@ form-byte b [] e = refl
 form-byte b (c ∷ []) e = refl
 form-byte b (c ∷ d ∷ r) e = rw e
 
-pub takes-byte : (config : Config) (s : List ℕ) (i : ℕ) → i < length s → escapeIn config (drop i s) ≡ neither → Takes config s i (symbolOf (getD s i 0)) (i + 1)
+pub takes-byte : (config : Config) (s : List ℕ) (i : ℕ) → i < length s → escapeIn config (drop i s) ≡ neither
+    → Takes config s i (symbolOf (getD s i 0)) (i + 1)
 unfolding segment
 takes-byte config s i h e =
     record {
@@ -55,7 +56,8 @@ takes-byte config s i h e =
     }
   where
     list : (form : Bool) → cond form (escapeAhead (drop i s)) neither ≡ neither
-        → cond form (formTokens (drop i s)) (byteTokens (drop i s)) ≡ byteToken (getD s i 0) ∷ cond form (formTokens (drop (i + 1) s)) (byteTokens (drop (i + 1) s))
+        → cond form (formTokens (drop i s)) (byteTokens (drop i s))
+        ≡ byteToken (getD s i 0) ∷ cond form (formTokens (drop (i + 1) s)) (byteTokens (drop (i + 1) s))
     list true e = ap formTokens (drop-1 s i h) ∙ form-byte (getD s i 0) (drop (i + 1) s) (ap escapeAhead (sym (drop-1 s i h)) ∙ e)
     list false e = ap byteTokens (drop-1 s i h)
 
@@ -139,5 +141,6 @@ module _ (config : Config) (s : List ℕ) (i j : ℕ) where
   pub took-same : (x y : Symbol) → sameSymbol x y ≡ true → Took config s i (yielded x) j → Took config s i (yielded y) j
   took-same x y e k = subst (λ (z : Symbol). Took config s i (yielded z) j) (same-symbol x y e) k
 
-pub next-bounds : {config : Config} {s : List ℕ} {cursor : Cursor} {taken : Taken} → Next config s cursor taken → TookBounds s (cursor .place) (taken .cursor .place)
+pub next-bounds : {config : Config} {s : List ℕ} {cursor : Cursor} {taken : Taken} → Next config s cursor taken
+    → TookBounds s (cursor .place) (taken .cursor .place)
 next-bounds {config} {s} {cursor} {taken} n = took-bounds config s (cursor .place) (taken .cursor .place) (yielded (taken .symbol)) (n .took)

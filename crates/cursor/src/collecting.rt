@@ -1,81 +1,53 @@
-// A segment as a key or a value. Nothing is decoded here: a String is answered by the bounds of its raw segment.
-ghost use Prim.Native.Nat.{_<_, _≤_};
+// A segment as a key or a value. Nothing is decoded here: of a String only the kind is answered, beside the bounds of
+// its raw segment.
+ghost use mathlib.Core.Path.{_≡_};
+ghost use Prim.Native.Nat.{_≤_};
 ghost use lib.ListN.{length};
-ghost use Rattle.cursor.specs.Collected.{CollectedIs, KeyIs, ValueIs};
-use crate::scanning::Until;
-use crate::scanning::take_until;
+ghost use Rattle.key.specs.Collected.{collected, keyIn};
+ghost use Rattle.cursor.specs.Segments.{segment};
+ghost use Rattle.cursor.specs.Collected.{ValueIs};
+use crate::finding::value_end;
 use crate::taking::Cursor;
-use crate::taking::clear_acc;
 use config::Config;
 use key::KeyKind;
+use reading::LeafKind;
 
-// A key: an Int, or the bounds of a String's raw segment.
-pub enum Key {
-    Int(u32),
-    String(usize, usize),
-}
-
-// The key of a segment, or none (`Option<Key>` in the source).
-pub enum CollectedKey {
-    None,
-    Some(Key),
-}
-
-// A single value: Null, NoValue, or the bounds of a String's raw segment.
-pub enum Leaf {
-    Null,
-    NoValue,
-    String(usize, usize),
-}
-
-// A value, and the place after the taking that ended it.
+// A value: its kind, where its raw segment ends, and the place after the taking that ended it.
 pub struct CollectedValue {
-    pub leaf: Leaf,
+    pub leaf: LeafKind,
+    pub end: usize,
     pub place: usize,
 }
 
 // The key of the cursor's segment: none if it is empty.
-pub fn collect_key(input: &[u8], config: Config, cursor: Cursor) -> CollectedKey
+pub fn collect_key(input: &[u8], config: Config, cursor: Cursor) -> KeyKind
     requires { ⌜ (cursor .start ≤ cursor .end) × (cursor .end ≤ length (now input)) ⌝ }
-    ensures { λ r. ⌜ CollectedIs config (now (input .entry)) (cursor .start) (cursor .end) r ⌝ }
+    ensures { λ r. ⌜ keyIn r (segment (now (input .entry)) (cursor .start) (cursor .end))
+        ≡ collected config (segment (now (input .entry)) (cursor .start) (cursor .end)) ⌝ }
 {
     let start = cursor.start;
     let end = cursor.end;
-    match key::key_of(config, &input[start..end]) {
-        KeyKind::None => CollectedKey::None,
-        KeyKind::Int(n) => CollectedKey::Some(Key::Int(n)),
-        KeyKind::String => CollectedKey::Some(Key::String(start, end)),
-    }
+    key::key_of(config, &input[start..end])
 }
 
-// The key of the cursor's segment, which isn't empty (`collect_key` and `expect("key cannot be empty")` in the source).
-pub fn expect_key(input: &[u8], config: Config, cursor: Cursor) -> Key
-    requires { ⌜ (cursor .start < cursor .end) × (cursor .end ≤ length (now input)) ⌝ }
-    ensures { λ r. ⌜ KeyIs config (now (input .entry)) (cursor .start) (cursor .end) r ⌝ }
-{
-    match collect_key(input, config, cursor) {
-        // not met, as the segment isn't empty
-        CollectedKey::None => Key::String(cursor.start, cursor.end),
-        CollectedKey::Some(key) => key,
-    }
-}
-
-// The value that starts at a place: the bytes up to `&` or the end.
+// The value that starts at a place: the bytes up to `&` or the end. That is so with either flag, since no escaped
+// bracket holds `&`.
 pub fn collect_value(input: &[u8], config: Config, place: usize) -> CollectedValue
     requires { ⌜ place ≤ length (now input) ⌝ }
     ensures { λ r. ⌜ ValueIs config (now (input .entry)) place r ⌝ }
 {
-    let taken = take_until(input, config, Until::Value, clear_acc(place));
-    let cursor = taken.cursor;
-    let end = cursor.end;
+    let end = value_end(input, place);
+    let after = end + 1;
     if end == place {
         return CollectedValue {
-            leaf: Leaf::Null,
-            place: cursor.place,
+            leaf: LeafKind::Null,
+            end,
+            place: after,
         };
     }
     CollectedValue {
-        leaf: Leaf::String(place, end),
-        place: cursor.place,
+        leaf: LeafKind::String,
+        end,
+        place: after,
     }
 }

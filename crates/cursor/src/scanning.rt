@@ -3,7 +3,7 @@ ghost use mathlib.Core.Path.{_≡_};
 ghost use Prim.Native.Nat.{_≤_};
 ghost use lib.ListN.{length};
 ghost use Rattle.cursor.specs.Takings.{yielded};
-ghost use Rattle.cursor.specs.Scans.{stopsOf, stopsAt, Scanned};
+ghost use Rattle.cursor.specs.Scans.{stopsOf, stopsAt, stops, Scanned};
 use crate::taking::Cursor;
 use crate::taking::Symbol;
 use crate::taking::Taken;
@@ -11,7 +11,7 @@ use crate::taking::take;
 use config::Config;
 
 // What is scanned: a value, a bracket's key below the depth, which a `]` ends, a key at the depth, or a root key,
-// which a `[` ends too where brackets nest.
+// which a `[` ends too where brackets nest. (A value's end is found by `value_end`, of which the same is proved.)
 pub enum Until {
     Value,
     Closing,
@@ -71,6 +71,13 @@ fn stops_at(stops: Stops, symbol: Symbol) -> bool
         Symbol::Other => false,
         Symbol::End => true,
     }
+}
+
+// Whether a symbol ends a scan of this kind.
+pub fn ends_scan(until: Until, symbol: Symbol) -> bool
+    ensures { λ r. ⌜ r ≡ stops until (yielded symbol) ⌝ }
+{
+    stops_at(stops_of(until), symbol)
 }
 
 // Takes until a symbol that ends the scan, which is taken too. The segment's start stays.

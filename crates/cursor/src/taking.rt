@@ -155,7 +155,9 @@ pub fn next(cursor: &mut Cursor, input: &[u8], config: Config) -> Symbol
     taken.symbol
 }
 
-// A taking over a copy of the cursor, lent to `next`: the symbol, and the cursor as it comes back.
+// A taking by value, for the loops that hold their own cursor: it lends a copy of it to `next`, and answers the
+// symbol and the cursor as it comes back. It stands above `next`, which is the source's form, with a lent cursor; the
+// taking itself is `step`, which both share.
 pub fn take(input: &[u8], config: Config, cursor: Cursor) -> Taken
     requires { ⌜ cursor .place ≤ length (now input) ⌝ }
     ensures { λ r. ⌜ Next config (now (input .entry)) cursor r ⌝ }
@@ -169,7 +171,7 @@ pub fn take(input: &[u8], config: Config, cursor: Cursor) -> Taken
 }
 
 // A cursor at a place, with an empty segment there (the source's `clear_acc`).
-pub fn clear_acc(place: usize) -> Cursor
+pub fn cursor_at(place: usize) -> Cursor
     ensures { λ r. ⌜ (r .place ≡ place) × (r .start ≡ place) × (r .end ≡ place) ⌝ }
 {
     Cursor {

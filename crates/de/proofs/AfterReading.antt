@@ -24,7 +24,7 @@ use Rattle.fields.specs.declared.text.TextRead.{TextRead}
 use Rattle.fields.specs.declared.list.ListRead.{ListRead}
 use Rattle.fields.specs.Fields.{rootField}
 use Rattle.fields.specs.Texts.{textOfField}
-use Rattle.fields.specs.Lists.{Listed, listOfField}
+use Rattle.fields.specs.Lists.{ListResult, listOfField}
 use Rattle.de.specs.Reads.{TextOutcome, ListOutcome, leaving, unread, textAnswer, textAfter, textRead, listOutcome, listAfter, leftIn, unlisted, listRead}
 use Rattle.de.specs.ListReads.{elementCount, listReadAnswer, leftBy}
 use Rattle.fields.specs.OnRecords.{Readable, fieldAt, fieldTextAt, fieldListAt, Writes, wrote, stopped}
@@ -76,7 +76,8 @@ module _ (config : Config) (input words text W X : List ℕ) (p : Parsed) {readi
   -- It accepts.
   module _ (z : reading .number ≡ 0) where
     by-way : (P : Read → Outcome → Type 0)
-        → ((v : Node) (u : Used) (s : Sound (lentBy words text) v u) → P (passed v (outcome (length words) (length text) (accepted v u))) (outcome (length words) (length text) (accepted v u)))
+        → ((v : Node) (u : Used) (s : Sound (lentBy words text) v u)
+        → P (passed v (outcome (length words) (length text) (accepted v u))) (outcome (length words) (length text) (accepted v u)))
         → P (read config input words text) after-it
     by-way P f = go (went config input words text) e
       where
@@ -91,9 +92,9 @@ module _ (config : Config) (input words text W X : List ℕ) (p : Parsed) {readi
         → Writes size l (fieldListAt d W X size (fieldAt W X name)) r → elementCount r ≤ reading .records
     few-listed d name size {l} {r} =
         by-way (λ q y. Writes size l (fieldListAt d (y .words) (y .text) size (fieldAt (y .words) (y .text) name)) r → elementCount r ≤ y .answer .records)
-        (λ v u s h. go (few-found words text s d name size) (subst (λ (y : Listed). Writes size l y r) (list-found words text s d name size) h))
+        (λ v u s h. go (few-found words text s d name size) (subst (λ (y : ListResult). Writes size l y r) (list-found words text s d name size) h))
       where
-        go : {n : ℕ} {whole : Listed} {q : ListRead} → FewElements n whole → Writes size l whole q → elementCount q ≤ n
+        go : {n : ℕ} {whole : ListResult} {q : ListRead} → FewElements n whole → Writes size l whole q → elementCount q ≤ n
         go f (wrote h) = f
         go f (stopped h) = omega arith
 
@@ -122,9 +123,9 @@ module _ (config : Config) (input words text W X : List ℕ) (p : Parsed) {readi
         (after q (listAfter d name (length list)) (unlisted list)))
         (λ v u s h.
         go (outcome (length words) (length text) (accepted v u))
-        (subst (λ (y : Listed). Writes (length list) l y r) (list-found words text s d name (length list)) h)) g)
+        (subst (λ (y : ListResult). Writes (length list) l y r) (list-found words text s d name (length list)) h)) g)
       where
-        go : (o : Outcome) {whole : Listed} {q : ListRead} → Writes (length list) l whole q
+        go : (o : Outcome) {whole : ListResult} {q : ListRead} → Writes (length list) l whole q
             → _≡_ {A = ListOutcome} (record { read = leaving o (listReadAnswer (o .answer) q); list = leftBy q l }) (listOutcome o (length list) whole)
         go o (wrote h) = rw h
         go o (stopped h) = rw h

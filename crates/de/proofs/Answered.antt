@@ -25,7 +25,7 @@ use Rattle.fields.specs.declared.text.TextRead.{TextRead}
 use Rattle.fields.specs.declared.text.TextRead.the-variants.{Text, Refused}
 use Rattle.fields.specs.Fields.{Field, found, isNamed, named, rootField}
 use Rattle.fields.specs.Texts.{singleText, lastText, several, textOf, textOfField}
-use Rattle.fields.specs.Lists.{Listed, listed, prepend, isNext, elementText, inTurn, childCount, elements, intKeys, listOf, listOfField}
+use Rattle.fields.specs.Lists.{ListResult, listed, prepend, isNext, elementText, inTurn, childCount, elements, intKeys, listOf, listOfField}
 use Rattle.de.specs.Reads.{leaving, unread, textAnswer, textAfter, textRead, listAnswer, listOutcome, listAfter, unlisted, listRead}
 use Rattle.de.specs.Answered.{ValidText, TextAnswered, ValidElements, ListAnswered}
 use Rattle.de.proofs.Stored.{lies-le}
@@ -90,25 +90,25 @@ module _ (t zs : List ℕ) where
     no-pair : Pairs 0 []
     pair : {o n k : ℕ} {words : List ℕ} → Valid o n → Pairs k words → Pairs (suc k) (o ∷ n ∷ words)
 
-  abbrev ValidListed : Listed → Type 0
-  ValidListed (listed k words) = Pairs k words
-  ValidListed (Listed.refused x) = Unit {0}
+  abbrev ValidListResult : ListResult → Type 0
+  ValidListResult (listed k words) = Pairs k words
+  ValidListResult (ListResult.refused x) = Unit {0}
 
-  prepend-valid : (r : TextRead) (later : Listed) → ValidRead r → ValidListed later → ValidListed (prepend r later)
+  prepend-valid : (r : TextRead) (later : ListResult) → ValidRead r → ValidListResult later → ValidListResult (prepend r later)
   prepend-valid (Text o n) (listed k words) h g = pair h g
-  prepend-valid (Text o n) (Listed.refused x) h g = tt
+  prepend-valid (Text o n) (ListResult.refused x) h g = tt
   prepend-valid (Refused x) later h g = tt
 
-  turn-valid : (d : DuplicateKeyBehavior) (i : ℕ) (cs : Forest) → LaidAll t cs → ValidListed (inTurn d i cs)
+  turn-valid : (d : DuplicateKeyBehavior) (i : ℕ) (cs : Forest) → LaidAll t cs → ValidListResult (inTurn d i cs)
   turn-valid d i none h = no-pair
   turn-valid d i (child m l v cs) h =
       prepend-valid (elementText d i (l .label) v) (inTurn d (suc i) cs) (split (isNext i (l .label)) (λ e. rw e (text-valid d v (h .1))) (λ e. rw e tt))
       (turn-valid d (suc i) cs (h .2))
 
-  elements-valid : (d : DuplicateKeyBehavior) (size : ℕ) (cs : Forest) → LaidAll t cs → ValidListed (elements d size cs)
+  elements-valid : (d : DuplicateKeyBehavior) (size : ℕ) (cs : Forest) → LaidAll t cs → ValidListResult (elements d size cs)
   elements-valid d size cs h = split (ltb size (2 * childCount cs)) (λ e. rw e tt) (λ e. rw e (turn-valid d 0 cs h))
 
-  list-valid : (d : DuplicateKeyBehavior) (size : ℕ) (v : Value) → Laid t v → ValidListed (listOf d size v)
+  list-valid : (d : DuplicateKeyBehavior) (size : ℕ) (v : Value) → Laid t v → ValidListResult (listOf d size v)
   list-valid d size uninitialized h = tt
   list-valid d size null h = no-pair
   list-valid d size noValue h = no-pair
@@ -116,7 +116,7 @@ module _ (t zs : List ℕ) where
   list-valid d size (map cs) h = split (intKeys cs) (λ e. rw e (elements-valid d size cs h)) (λ e. rw e tt)
   list-valid d size (sequence cs) h = elements-valid d size cs h
 
-  field-list-valid : (d : DuplicateKeyBehavior) (size : ℕ) (f : Field) → LaidField f → ValidListed (listOfField d size f)
+  field-list-valid : (d : DuplicateKeyBehavior) (size : ℕ) (f : Field) → LaidField f → ValidListResult (listOfField d size f)
   field-list-valid d size (found v) h = list-valid d size v h
   field-list-valid d size (Field.refused x) h = tt
 
@@ -142,12 +142,12 @@ module _ (words text : List ℕ) {v : Node} {u : Used} (s : Sound (lentBy words 
   answered-text (Text a b) h e = record { inside = h .0; valid = h .1 }
   answered-text (Refused x) h e = absurd (code-some x e)
 
-  answered-list : (size : ℕ) (r : Listed) → ValidListed (u .text) spare r → (listAnswer (o .answer) r) .reading .number ≡ 0
+  answered-list : (size : ℕ) (r : ListResult) → ValidListResult (u .text) spare r → (listAnswer (o .answer) r) .reading .number ≡ 0
       → ValidElements (listOutcome o size r)
   answered-list size (listed k written) h e i l =
       let p = pair-at (u .text) spare (replicate (size - length written) 0) i h l in
       record { inside = p .0; valid = p .1 }
-  answered-list size (Listed.refused x) h e i l = absurd (code-some x e)
+  answered-list size (ListResult.refused x) h e i l = absurd (code-some x e)
 
 pub text-answered : TextAnswered
 unfolding textRead

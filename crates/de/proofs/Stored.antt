@@ -1,7 +1,7 @@
 -- The words and the text that an accepted reading leaves hold its tree (`Stores` of crate tree).
 use Prim.Native.Nat.{ℕ, _+_, _*_, _-_, _<_, _≤_}
 use mathlib.Core.Path.{_≡_, refl, ap, sym, _∙_, subst}
-use mathlib.Core.List.{List}
+use mathlib.Core.List.{List, [], _∷_}
 use native.Mathlib.Omega.{arith}
 use native.Mathlib.Decide.{ℕ-discrete, decLt}
 use borrow.Author.Tests.{ltb-true, ltb-false}
@@ -14,7 +14,7 @@ use Rattle.laws.proofs.Lists.{zeros}
 use Rattle.reading.specs.Values.{Label, unkeyed, intKey, stringKey, Row, Value, uninitialized, null, noValue, string, map, sequence, Forest, none, child, Node}
 use Rattle.reading.specs.Charging.{Used}
 use Rattle.reading.specs.Running.{accepted}
-use Rattle.reading.specs.Records.{rooted as forestOf, layout, textOffset, textLength}
+use Rattle.reading.specs.Records.{rooted as forestOf, layout, textOffset, textLen}
 use Rattle.reading.specs.Trees.{plain, entries, elements}
 use Rattle.reading.specs.Counts.{values, entryValues, elementValues}
 use Rattle.reading.specs.Laid.{Lies, LaidLabel, Laid, LaidAll}
@@ -25,13 +25,15 @@ use Rattle.reading.proofs.Laying.{laid-more}
 use Rattle.reading.proofs.Layouts.{Recorded, Rows, RowsAll, records-length, root-row, layout-rows}
 use Rattle.reading.proofs.Outcomes.{Sound, accepted-answered}
 use Rattle.records.specs.declared.store.Record.{Record}
-use Rattle.row.specs.Row.{textWord, textLengthWord}
+use Rattle.row.specs.Row.{keyWord, keyLenWord, textWord, textLenWord, childWord}
 use Rattle.row.specs.Words.{recordCount, word}
 use Rattle.records.specs.Records.{keyWordsAt, valueAt, recordAt}
 use Rattle.records.specs.Keys.{InText}
+use Rattle.records.specs.Siblings.{children, Within, WellFormed}
 use Rattle.records.specs.Nodes.{Nodes, nil, node, first as firstNode, size, indicator, count}
 use Rattle.records.specs.Holds.{Represents, Above, Rising}
 use Rattle.records.specs.Holds as holds
+use Rattle.records.proofs.Chains.{chain-end}
 use Rattle.records.proofs.Forests.{indicator-other}
 use Rattle.records.proofs.Held.{well-formed}
 use Rattle.tree.specs.Nodes.{labelWords, recordOf, below, nodes, rooted}
@@ -146,7 +148,7 @@ label-inside text unkeyed h i = omega arith
 label-inside text (intKey a) h i = absurd (i refl)
 label-inside text (stringKey o x) h i = lies-le h
 
-value-inside : (text : List ℕ) (v : Value) → Laid text v → textOffset v + textLength v ≤ length text
+value-inside : (text : List ℕ) (v : Value) → Laid text v → textOffset v + textLen v ≤ length text
 value-inside text uninitialized h = omega arith
 value-inside text null h = omega arith
 value-inside text noValue h = omega arith
@@ -178,6 +180,29 @@ inside-at ws text (node n r d s) k i m c =
     go (yes e) q f g = subst (InsideText text) (sym (ap (recordAt ws) e ∙ k .0 .fixed)) (i .0)
     go (no e) (yes q) f g = f q
     go (no e) (no q) f g = g (omega (arith, indicator-other m n e))
+
+-- Records that are zero have no child and no key, so that what is well-formed of those used is so of all that are lent.
+within-more : (lo hi more : ℕ) (ms : List ℕ) → hi ≤ more → Within lo hi ms → Within lo more ms
+within-more lo hi more [] l h = tt
+within-more lo hi more (m ∷ ms) l h = (h .0, omega (arith, h .1), within-more lo hi more ms l (h .2))
+
+formed-behind : (ws text : List ℕ) {used : ℕ} → WellFormed ws text used → ((m w : ℕ) → used ≤ m → w < recordWidth → word ws m w ≡ 0)
+    → WellFormed ws text (recordCount ws)
+unfolding keyWordsAt
+formed-behind ws text {used} k z =
+    record {
+      links = record {
+        room = omega arith;
+        rising = λ n l.
+            by-order n used (λ h. within-more n used (recordCount ws) (children ws n) (k .links .room) (k .links .rising n h)) (λ h. rw (none n h) tt);
+        ends = λ n l. by-order n used (λ h. k .links .ends n h) (λ h. rw (none n h) (omega arith));
+      };
+      keys = λ n l. by-order n used (λ h. k .keys n h)
+          (λ h _. omega (arith, z n keyWord h (omega arith), z n keyLenWord h (omega arith)));
+    }
+  where
+    none : (n : ℕ) → used ≤ n → children ws n ≡ []
+    none n h = rw (z n childWord h (omega arith)) (chain-end ws (recordCount ws))
 
 module _ (words text : List ℕ) (v : Node) (u : Used) (s : Sound (lentBy words text) v u) where
   abbrev pub left : List ℕ
@@ -241,13 +266,13 @@ module _ (words text : List ℕ) (v : Node) (u : Used) (s : Sound (lentBy words 
           no-other = λ m l. numbered m ∙ split (ltb m n) (λ e. absurd (omega (arith, ltb-true m n e))) (λ e. rw e);
           sized = omega (arith, size-below (v .value), s .held .sizes);
           rising = (above-below 0 n (v .value) (s .risen .rising), rising-below 0 n (v .value) (s .risen .rising), tt);
-          unused = rest-zero;
           room = omega (arith, left-long, s .within .records);
           keys = λ m l. in-text m l .0;
         };
         texts = s .held .texts;
         shaped = s .shaped;
-        full = let e : length filled - length (u .text) ≡ length text - length (u .text) = omega (arith, filled-long) in rw e;
+        free = replicate (length text - length (u .text)) 0;
+        full = refl;
         fill = refl;
       }
 
@@ -255,10 +280,10 @@ module _ (words text : List ℕ) (v : Node) (u : Used) (s : Sound (lentBy words 
   unfolding valueAt
   readable =
       record {
-        formed = well-formed (stores .holds);
+        formed = formed-behind left filled (well-formed (stores .holds)) rest-zero;
         values = λ m l.
             by-order m n (λ h. in-text m h .1)
-            (λ h. omega (arith, rest-zero m textWord h (omega arith), rest-zero m textLengthWord h (omega arith)));
+            (λ h. omega (arith, rest-zero m textWord h (omega arith), rest-zero m textLenWord h (omega arith)));
       }
 
   pub some-record : 0 < recordCount left

@@ -18,7 +18,7 @@ use Rattle.fields.specs.declared.text.TextRead.{TextRead}
 use Rattle.fields.specs.declared.text.TextRead.the-variants.{Text, Refused}
 use Rattle.fields.specs.Fields.{rootField}
 use Rattle.fields.specs.Texts.{textOfField}
-use Rattle.fields.specs.Lists.{Listed, listed, refused, listOfField}
+use Rattle.fields.specs.Lists.{ListResult, listed, refused, listOfField}
 
 -- What a call answers, with what the words and the text hold then.
 pub record TextOutcome : Type 0 where
@@ -65,18 +65,18 @@ pub record ListOutcome : Type 0 where
   pub list : List ℕ
 
 -- "the result's own length is the number of elements and its offset 0"
-abbrev pub listAnswer : Reading → Listed → FieldRead
+abbrev pub listAnswer : Reading → ListResult → FieldRead
 listAnswer reading (listed count words) = record { reading = reading; offset = 0; len = count }
 listAnswer reading (refused x) = refusedAnswer reading x
 
 -- "It writes offset and length for each into a lent u32 slice, the rest zero"; "all zero under every later number". The
 -- slice has so many words.
-abbrev pub listWords : ℕ → Listed → List ℕ
+abbrev pub listWords : ℕ → ListResult → List ℕ
 listWords size (listed count words) = words ++ replicate (size - length words) 0
 listWords size (refused x) = replicate size 0
 
 -- What is answered of a list, into a slice of so many words, after a reading that left this.
-abbrev pub listOutcome : Outcome → ℕ → Listed → ListOutcome
+abbrev pub listOutcome : Outcome → ℕ → ListResult → ListOutcome
 listOutcome o size list = record { read = leaving o (listAnswer (o .answer) list); list = listWords size list }
 
 -- The list of the field of a name, after a reading that made this tree.

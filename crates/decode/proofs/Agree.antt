@@ -44,7 +44,7 @@ whatwg-unmarked : (x : ℕ) (t : List ℕ) → not (isMark x) ≡ true → whatw
 whatwg-unmarked x t q = whatwg-other x t (unmarked-other x q) ∙ ap (λ b. b ∷ whatwg t) (unmarked-spaced x q)
 
 -- Both halves of a conjunction that holds.
-halves : (a b : Bool) → a && b ≡ true → (a ≡ true) × (b ≡ true)
+pub halves : (a b : Bool) → a && b ≡ true → (a ≡ true) × (b ≡ true)
 halves true b e = (refl, e)
 halves false b e = true-false (sym e)
 

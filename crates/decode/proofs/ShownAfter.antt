@@ -1,35 +1,15 @@
 -- What is shown after decoding (specs/ShownAfter).
-use mathlib.Core.Path.{_≡_, refl, sym, ap, _∙_}
+use mathlib.Core.Path.{_≡_, sym, ap, _∙_}
 use mathlib.Core.Bool.{Bool, true, false}
-use mathlib.Core.List.{List, [], _∷_, _++_}
+use mathlib.Core.List.{List, [], _++_}
 use Prim.Native.Nat.{ℕ}
-use borrow.Author.Tests.{eqb-false}
-use lib.Dec.{eqb}
 use lib.ListN.{length, drop}
 use lib.Seq.{take-append-seam}
-use Rattle.laws.proofs.Cases.{split, true-false, both}
+use Rattle.laws.proofs.Cases.{split}
 use Rattle.decode.specs.Decoding.{decoded, fitsIn, answerOf}
-use Rattle.decode.specs.Stepping.{rest}
-use Rattle.decode.specs.Shown.{plainByte, allPlain, lengthOf}
+use Rattle.decode.specs.Shown.{allPlain, lengthOf}
 use Rattle.decode.specs.ShownAfter.{Calls, ShownAfter}
-use Rattle.decode.proofs.Steps.{rest-plain}
-
--- A plain byte decodes to itself, whatever follows.
-plain-kept : (x : ℕ) (t : List ℕ) → plainByte x ≡ true → decoded (x ∷ t) ≡ x ∷ decoded t
-unfolding rest
-plain-kept x t q =
-    split (eqb x 43)
-    (λ p. true-false (sym (simp p at q)))
-    (λ p.
-    split (eqb x 37)
-    (λ s. true-false (sym (simp (p, s) at q)))
-    (λ s. rest-plain x t (eqb-false x 37 s) ∙ ap (λ b. b ∷ decoded t) (simp p)))
-
--- Bytes without '+' and '%' are their own decoding.
-plain-decoded : (raw : List ℕ) → allPlain raw ≡ true → decoded raw ≡ raw
-unfolding decoded allPlain
-plain-decoded [] e = refl
-plain-decoded (x ∷ t) e = let f = both (plainByte x) (allPlain t) e in plain-kept x t (f .0) ∙ ap (λ l. x ∷ l) (plain-decoded t (f .1))
+use Rattle.decode.proofs.Plain.{plain-decoded}
 
 -- What each call gives, where the decoded bytes fit and where they don't.
 module _ (raw : List ℕ) (calls : Calls raw) where

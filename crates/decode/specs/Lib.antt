@@ -2,6 +2,7 @@ pub mod Hex
 pub mod Decoding
 pub mod Stepping
 pub mod Shown
+pub mod Laying
 pub mod ShownAfter
 pub mod Whatwg
 pub mod Swallowed

@@ -3,14 +3,17 @@
 // specs/Agreement compares decoding with WHATWG's, and specs/ShownAfter tells what is shown after it.
 // Below it stands `laws`.
 ghost use mathlib.Core.Path.{_≡_};
-ghost use mathlib.Core.List.{_++_};
-ghost use Prim.Native.Nat.{_<_, _≤_};
+ghost use mathlib.Core.Bool.{not};
+ghost use Prim.Native.Nat.{_+_, _<_, _≤_};
 ghost use lib.Dec.{leb};
-ghost use lib.ListN.{length, drop, getD};
+ghost use lib.ListN.{length, take, drop, getD};
 ghost use Rattle.decode.specs.Hex.{digitOf};
 ghost use Rattle.decode.specs.Decoding.{decoded, plusToSpace, answerOf, answer, written};
 ghost use Rattle.decode.specs.Stepping.{Yields};
+ghost use Rattle.decode.specs.Laying.{PlainTo};
 ghost use Rattle.decode.specs.Shown.{allPlain, lengthOf, shownOf};
+
+mod writing; // the decoded bytes written
 
 // The answer of `decode`: the number of bytes written, or that they don't fit.
 pub enum Decoded {
@@ -141,45 +144,38 @@ pub fn fits(raw: &[u8], size: usize) -> bool
     n <= size
 }
 
-// Writes the decoded bytes, which fit, and answers their number. Further bytes of `out` stay as they were.
-fn write(raw: &[u8], out: &mut [u8]) -> usize
-    requires { ⌜ length (decoded (now raw)) ≤ length (now out) ⌝ }
-    ensures length { λ r. ⌜ r ≡ length (decoded (now (raw .entry))) ⌝ }
-    ensures bytes { λ _. ⌜ now (out .exit) ≡ decoded (now (raw .entry))
-        ++ drop (length (decoded (now (raw .entry)))) (now (out .entry)) ⌝ }
+// Whether sixteen bytes from `i` on hold a '+' or a '%'. All are looked at, so that they are compared at once.
+fn special_in_block(raw: &[u8], i: usize) -> bool
+    requires { ⌜ i + 16 ≤ length (now raw) ⌝ }
+    ensures { λ r. ⌜ r ≡ not (allPlain (take 16 (drop i (now (raw .entry))))) ⌝ }
 {
-    let mut i = 0;
-    let mut keep = 0;
-    let mut n = 0;
-    while i < raw.len() {
-        let s = next_byte(raw, i, keep);
-        out[n] = s.byte;
-        i = s.next;
-        keep = s.keep;
-        n += 1;
+    let mut hit = false;
+    for j in 0..16 {
+        hit = hit | (raw[i + j] == b'+') | (raw[i + j] == b'%');
     }
-    n
+    hit
 }
 
-// Decodes `raw` into `out`: yes and the length, with the further bytes of `out` as they were; or, exactly if the
-// decoded bytes don't fit, no with `out` unchanged.
-pub fn decode(raw: &[u8], out: &mut [u8]) -> Decoded
-    ensures answer { λ r. ⌜ answerOf r ≡ answer (now (raw .entry)) (now (out .entry)) ⌝ }
-    ensures output { λ _. ⌜ now (out .exit) ≡ written (now (raw .entry)) (now (out .entry)) ⌝ }
+// How many bytes at the front hold neither '+' nor '%', as far as blocks of sixteen tell: up to the first block that
+// holds one, or to where no block is left.
+fn plain_blocks(raw: &[u8]) -> usize
+    ensures { λ r. ⌜ PlainTo (now (raw .entry)) r ⌝ }
 {
-    if fits(raw, out.len()) {
-        let n = write(raw, out);
-        Decoded::Yes(n)
-    } else {
-        Decoded::No
+    let mut i = 0;
+    while 16 <= raw.len() - i {
+        if special_in_block(raw, i) {
+            return i;
+        }
+        i += 16;
     }
+    i
 }
 
 // Whether the bytes hold neither '+' nor '%': then they are their own decoding.
-fn is_plain(raw: &[u8]) -> bool
+pub fn is_plain(raw: &[u8]) -> bool
     ensures { λ r. ⌜ r ≡ allPlain (now (raw .entry)) ⌝ }
 {
-    let mut i = 0;
+    let mut i = plain_blocks(raw);
     while i < raw.len() {
         let b = raw[i];
         if b == b'+' {
@@ -191,6 +187,20 @@ fn is_plain(raw: &[u8]) -> bool
         i += 1;
     }
     true
+}
+
+// Decodes `raw` into `out`: yes and the length, with the further bytes of `out` as they were; or, exactly if the
+// decoded bytes don't fit, no with `out` unchanged.
+pub fn decode(raw: &[u8], out: &mut [u8]) -> Decoded
+    ensures answer { λ r. ⌜ answerOf r ≡ answer (now (raw .entry)) (now (out .entry)) ⌝ }
+    ensures output { λ _. ⌜ now (out .exit) ≡ written (now (raw .entry)) (now (out .entry)) ⌝ }
+{
+    if fits(raw, out.len()) {
+        let n = writing::write(raw, out);
+        Decoded::Yes(n)
+    } else {
+        Decoded::No
+    }
 }
 
 // The number of bytes that decoding answered, 0 after a no.

@@ -9,11 +9,11 @@ use lib.Dec.{eqb}
 use lib.ListN.{length}
 use borrow.Author.Tests.{ne-eqb}
 use Rattle.reading.specs.Values.{Label, unkeyed, intKey, stringKey, Row, Value, uninitialized, null, noValue, string, map, sequence, Forest, none, child}
-use Rattle.reading.specs.Records.{kind, textOffset, textLength}
+use Rattle.reading.specs.Records.{kind, textOffset, textLen}
 use Rattle.reading.specs.Laid.{LaidLabel, Laid, LaidAll}
 use Rattle.reading.proofs.Laying.{lies-part}
 use Rattle.records.specs.declared.store.Record.{Record as RecordWords}
-use Rattle.row.specs.Row.{kindWord, keyKindWord, keyWord, keyLengthWord, textWord, textLengthWord, nextWord, intKeyKind}
+use Rattle.row.specs.Row.{kindWord, keyKindWord, keyWord, keyLenWord, textWord, textLenWord, nextWord, intKeyKind}
 use Rattle.row.specs.Words.{recordCount, word}
 use Rattle.records.specs.Records.{keyWordsAt, valueAt}
 use Rattle.records.specs.Siblings.{children, lastOf}
@@ -33,7 +33,9 @@ use Rattle.fields.specs.declared.text.TextRead.the-variants.{Refused}
 use Rattle.fields.specs.Fields.{Field, found, refused, isNamed, named, rootField}
 use Rattle.fields.specs.Texts.{singleText, lastText, several, textOf, textOfField}
 use Rattle.fields.specs.Lists.{isNext, inTurn, childCount, elements, isIntKey, intKeys, listOf, listOfField}
-use Rattle.fields.specs.OnRecords.{stringTextAt, singleTextAt, severalAt, sequenceTextAt, textAt, isNamedAt, namedAt, fieldAt, fieldTextAt, intKeysAt, isNextAt, elementAt, inTurnAt, elementsAt, oneAt, listAt, fieldListAt}
+use Rattle.fields.specs.OnRecords.{stringTextAt, singleTextAt, severalAt, sequenceTextAt, textAt, isNamedAt}
+use Rattle.fields.specs.OnRecords.{namedAt, fieldAt, fieldTextAt, intKeysAt, isNextAt, elementAt, inTurnAt}
+use Rattle.fields.specs.OnRecords.{elementsAt, oneAt, listAt, fieldListAt}
 
 -- The words and the text hold some children, none of which is record 0.
 pub record Among (ws text : List ℕ) (cs : Forest) : Type 0 where
@@ -79,7 +81,7 @@ module _ {ws text : List ℕ} {n : ℕ} {l : Row} {v : Value} (k : At ws text n 
   unfolding valueAt
   value-offset = ap (λ (r : RecordWords). r .value .offset) (k .row .fixed)
 
-  pub value-length : word ws n textLengthWord ≡ textLength v
+  pub value-length : word ws n textLenWord ≡ textLen v
   unfolding valueAt
   value-length = ap (λ (r : RecordWords). r .value .len) (k .row .fixed)
 
@@ -91,7 +93,7 @@ module _ {ws text : List ℕ} {n : ℕ} {l : Row} {v : Value} (k : At ws text n 
   unfolding keyWordsAt
   key-offset = ap (λ (r : RecordWords). r .key .offset) (k .row .fixed)
 
-  pub key-length : word ws n keyLengthWord ≡ (labelWords (l .label)) .len
+  pub key-length : word ws n keyLenWord ≡ (labelWords (l .label)) .len
   unfolding keyWordsAt
   key-length = ap (λ (r : RecordWords). r .key .len) (k .row .fixed)
 
@@ -149,12 +151,13 @@ module _ {ws text : List ℕ} where
   text-agrees d (sequence cs) k = rw (value-kind k) (sequence-agrees d cs k)
 
   -- The field of a name.
-  named-label : (name : List ℕ) {n : ℕ} {v : Value} (l : Row) → At ws text n l v → LaidLabel text (l .label) → isNamedAt ws text name n ≡ isNamed name (l .label)
+  named-label : (name : List ℕ) {n : ℕ} {v : Value} (l : Row) → At ws text n l v → LaidLabel text (l .label)
+      → isNamedAt ws text name n ≡ isNamed name (l .label)
   unfolding isNamedAt
   named-label name {n} l k h = go (l .label) (key-kind k) (key-offset k) (key-length k) h
     where
       go : (x : Label) → word ws n keyKindWord ≡ (labelWords x) .kind → word ws n keyWord ≡ (labelWords x) .offset
-          → word ws n keyLengthWord ≡ (labelWords x) .len → LaidLabel text x → isNamedAt ws text name n ≡ isNamed name x
+          → word ws n keyLenWord ≡ (labelWords x) .len → LaidLabel text x → isNamedAt ws text name n ≡ isNamed name x
       go unkeyed a b c h = rw a
       go (intKey i) a b c h = rw a
       go (stringKey o x) a b c h = rw (a, b, c, lies-part h)

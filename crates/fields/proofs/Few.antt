@@ -11,7 +11,7 @@ use Rattle.fields.specs.declared.DuplicateKeyBehavior.{DuplicateKeyBehav
 use Rattle.fields.specs.declared.text.TextRead.{TextRead}
 use Rattle.fields.specs.declared.text.TextRead.the-variants.{Text, Refused}
 use Rattle.fields.specs.Fields.{Field, found, isNamed, named, rootField}
-use Rattle.fields.specs.Lists.{Listed, listed, prepend, elementText, inTurn, childCount, elements, intKeys, listOf, listOfField}
+use Rattle.fields.specs.Lists.{ListResult, listed, prepend, elementText, inTurn, childCount, elements, intKeys, listOf, listOfField}
 
 -- The records of a field, and the elements of a list, are at most n.
 module _ (n : ℕ) where
@@ -19,9 +19,9 @@ module _ (n : ℕ) where
   FewRecords (found v) = size (below v) + 1 ≤ n
   FewRecords (Field.refused x) = Unit {0}
 
-  abbrev pub FewElements : Listed → Type 0
+  abbrev pub FewElements : ListResult → Type 0
   FewElements (listed k words) = k ≤ n
-  FewElements (Listed.refused x) = Unit {0}
+  FewElements (ListResult.refused x) = Unit {0}
 
 few-named : {n : ℕ} (name : List ℕ) (cs : Forest) → size (nodes cs) ≤ n → FewRecords n (named name cs)
 few-named name none h = tt
@@ -36,9 +36,9 @@ few-in-field (b ∷ s) (string o x) h = tt
 few-in-field name (map cs) h = few-named name cs (omega arith)
 few-in-field name (sequence cs) h = tt
 
-few-more : {m n : ℕ} (r : TextRead) (later : Listed) → m < n → FewElements m later → FewElements n (prepend r later)
+few-more : {m n : ℕ} (r : TextRead) (later : ListResult) → m < n → FewElements m later → FewElements n (prepend r later)
 few-more (Text o k) (listed i words) l h = omega arith
-few-more (Text o k) (Listed.refused x) l h = tt
+few-more (Text o k) (ListResult.refused x) l h = tt
 few-more (Refused x) later l h = tt
 
 module _ (d : DuplicateKeyBehavior) where

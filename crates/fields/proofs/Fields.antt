@@ -11,7 +11,7 @@ use lib.ListN.{length, getD, take, drop, drop-of-length-le}
 use borrow.Author.Tests.{eq-eqb, ne-eqb}
 use Rattle.laws.proofs.Cases.{split}
 use Rattle.laws.proofs.Lists.{drop-1}
-use Rattle.row.specs.Row.{kindWord, keyKindWord, keyWord, keyLengthWord, nextWord, uninitializedKind, mapKind}
+use Rattle.row.specs.Row.{kindWord, keyKindWord, keyWord, keyLenWord, nextWord, uninitializedKind, mapKind}
 use Rattle.row.specs.Row.{sequenceKind, stringKind, stringKeyKind}
 use Rattle.row.specs.Words.{recordCount, word}
 use Rattle.records.specs.Records.{keyWordsAt}
@@ -66,7 +66,7 @@ module _ {a b : List ℕ} {i : ℕ} (v : Same a b i) where
 
 -- The String key of a record, which is compared with the name.
 module _ (ws text name : List ℕ) (n : ℕ) {kind start len : ℕ} (e : kind ≡ word ws n keyKindWord) (h : kind ≡ stringKeyKind)
-    (p : start ≡ word ws n keyWord) (q : len ≡ word ws n keyLengthWord) where
+    (p : start ≡ word ws n keyWord) (q : len ≡ word ws n keyLenWord) where
   pub key-inside : InText text (keyWordsAt ws n) → start + len ≤ length text
   unfolding keyWordsAt
   key-inside i = omega (arith, i (λ z. omega (arith, e, h)))
@@ -99,7 +99,7 @@ named-inside ws text name lo hi n (m ∷ ms) w e =
     (λ t. let f : Record n ≡ Record m = rw t at e in let g : n ≡ m = cc in rw g (w .1))
     (λ t. named-inside ws text name lo hi n ms (w .2) (rw t at e))
 
-pub field-inside : (ws text name : List ℕ) (n : ℕ) → Linked ws → 0 < recordCount ws → Record n ≡ fieldAt ws text name → n < recordCount ws
+pub field-inside : (ws text name : List ℕ) (n : ℕ) → Linked ws (recordCount ws) → 0 < recordCount ws → Record n ≡ fieldAt ws text name → n < recordCount ws
 unfolding fieldAt
 field-inside ws text name n k l e =
     split (eqb (word ws 0 kindWord) mapKind)

@@ -11,7 +11,7 @@ use lib.Seq.{set-at}
 use borrow.Author.Tests.{lt-ltb, le-ltb}
 use Rattle.row.specs.Row.{keyKindWord, intKeyKind, childWord, nextWord}
 use Rattle.row.specs.Words.{recordCount, word}
-use Rattle.records.specs.Siblings.{chain, children, Ends, Linked}
+use Rattle.records.specs.Siblings.{chain, children, ChainEnds, Linked}
 use Rattle.records.proofs.Chains.{chain-end, step, ends-next, children-end}
 use Rattle.fields.specs.declared.DuplicateKeyBehavior.{DuplicateKeyBehavior}
 use Rattle.refusals.specs.declared.Refusal.{Refusal}
@@ -21,7 +21,7 @@ use Rattle.fields.specs.declared.field.FieldAt.the-variants.{Record, Ref
 use Rattle.fields.specs.declared.text.TextRead.the-variants.{Text, Refused}
 use Rattle.fields.specs.declared.list.ListRead.{ListRead}
 use Rattle.fields.specs.declared.list.ListRead.the-variants.{Elements, Refused as RefusedList}
-use Rattle.fields.specs.Lists.{Listed, listed, refused, prepend}
+use Rattle.fields.specs.Lists.{ListResult, listed, refused, prepend}
 use Rattle.fields.specs.OnRecords.{singleTextAt, intKeysAt, elementAt, inTurnAt, elementsAt, oneAt, listAt, fieldListAt, Writes, wrote, stopped}
 use Rattle.fields.proofs.Comparisons.{same-word, other-word}
 use Rattle.fields.proofs.Siblings.{Along, along-here, along-next, along-end}
@@ -43,10 +43,10 @@ all-int v h = along-end v h
 
 -- The loop of `count_children`.
 pub record Counting (ws : List ℕ) (whole count cur : ℕ) : Type 0 where
-  pub ends : Ends ws cur
+  pub ends : ChainEnds ws (recordCount ws) cur
   pub so-far : count + length (chain ws (recordCount ws) cur) ≡ whole
 
-pub counting-start : (ws : List ℕ) (n : ℕ) → Linked ws → n < recordCount ws → Counting ws (length (children ws n)) 0 (word ws n childWord)
+pub counting-start : (ws : List ℕ) (n : ℕ) → Linked ws (recordCount ws) → n < recordCount ws → Counting ws (length (children ws n)) 0 (word ws n childWord)
 counting-start ws n k l = record { ends = children-end k n l; so-far = omega arith }
 
 module _ {ws : List ℕ} {whole count cur : ℕ} (v : Counting ws whole count cur) where
@@ -60,15 +60,15 @@ module _ {ws : List ℕ} {whole count cur : ℕ} (v : Counting ws whole count cu
   counting-done h = omega (arith, rw (h, chain-end ws (recordCount ws)) at (v .so-far))
 
 -- The words of the elements so far before those of the later ones.
-abbrev pub prefixed : ℕ → List ℕ → Listed → Listed
+abbrev pub prefixed : ℕ → List ℕ → ListResult → ListResult
 prefixed i front (listed count words) = listed (i + count) (front ++ words)
 prefixed i front (refused x) = refused x
 
-prefixed-none : (whole : Listed) → prefixed 0 [] whole ≡ whole
+prefixed-none : (whole : ListResult) → prefixed 0 [] whole ≡ whole
 prefixed-none (listed count words) = let e : 0 + count ≡ count = omega arith in rw e
 prefixed-none (refused x) = refl
 
-prefixed-more : (i : ℕ) (front : List ℕ) (o n : ℕ) (later : Listed)
+prefixed-more : (i : ℕ) (front : List ℕ) (o n : ℕ) (later : ListResult)
     → prefixed i front (prepend (Text o n) later) ≡ prefixed (i + 1) (front ++ (o ∷ n ∷ [])) later
 prefixed-more i front o n (listed count words) =
     let e : i + suc count ≡ i + 1 + count = omega arith in
@@ -83,8 +83,8 @@ overwrite front zs k o n h =
     ∙ simp append-assoc
 
 -- The loop of `read_in_turn`.
-pub record Turning (d : DuplicateKeyBehavior) (ws text : List ℕ) (whole : Listed) (size i cur : ℕ) (l : List ℕ) : Type 0 where
-  pub ends : Ends ws cur
+pub record Turning (d : DuplicateKeyBehavior) (ws text : List ℕ) (whole : ListResult) (size i cur : ℕ) (l : List ℕ) : Type 0 where
+  pub ends : ChainEnds ws (recordCount ws) cur
   pub front : List ℕ
   pub front-long : length front ≡ 2 * i
   pub written : l ≡ front ++ replicate (size - 2 * i) 0
@@ -92,7 +92,8 @@ pub record Turning (d : DuplicateKeyBehavior) (ws text : List ℕ) (whole : List
   pub few : i + length (chain ws (recordCount ws) cur) < recordCount ws
   pub so-far : prefixed i front (inTurnAt d ws text i (chain ws (recordCount ws) cur)) ≡ whole
 
-pub turning-start : (d : DuplicateKeyBehavior) (ws text : List ℕ) (n : ℕ) (l : List ℕ) → Linked ws → n < recordCount ws → l ≡ replicate (length l) 0
+pub turning-start : (d : DuplicateKeyBehavior) (ws text : List ℕ) (n : ℕ) (l : List ℕ) → Linked ws (recordCount ws) → n < recordCount ws
+    → l ≡ replicate (length l) 0
     → 2 * length (children ws n) ≤ length l → Turning d ws text (inTurnAt d ws text 0 (children ws n)) (length l) 0 (word ws n childWord) l
 turning-start d ws text n l k h z r =
     record {
@@ -105,7 +106,7 @@ turning-start d ws text n l k h z r =
       so-far = prefixed-none (inTurnAt d ws text 0 (children ws n));
     }
 
-module _ {d : DuplicateKeyBehavior} {ws text : List ℕ} {whole : Listed} {size i cur : ℕ} {l : List ℕ} (v : Turning d ws text whole size i cur l) where
+module _ {d : DuplicateKeyBehavior} {ws text : List ℕ} {whole : ListResult} {size i cur : ℕ} {l : List ℕ} (v : Turning d ws text whole size i cur l) where
   pub turning-long : length l ≡ size
   turning-long =
       ap length (v .written) ∙ length-append (v .front) (replicate (size - 2 * i) 0)
@@ -153,14 +154,14 @@ module _ {d : DuplicateKeyBehavior} {ws text : List ℕ} {whole : Listed} {size 
         }
 
     pub turning-stopped : {x : Refusal} → Refused x ≡ elementAt d ws text i cur → Writes size l whole (RefusedList x)
-    turning-stopped {x} e = subst (λ (y : Listed). Writes size l y (RefusedList x)) (rw (sym e) at here) (stopped turning-long)
+    turning-stopped {x} e = subst (λ (y : ListResult). Writes size l y (RefusedList x)) (rw (sym e) at here) (stopped turning-long)
 
   pub turning-done : cur ≡ 0 → Writes size l whole (Elements i)
   unfolding inTurnAt
   turning-done h =
       let e : i + 0 ≡ i = omega arith in
       let q : listed i (v .front) ≡ whole = rw (h, chain-end ws (recordCount ws), e, append-nil) at (v .so-far) in
-      subst (λ (y : Listed). Writes size l y (Elements i)) q (wrote (v .written ∙ ap (λ (y : ℕ). v .front ++ replicate (size - y) 0) (sym (v .front-long))))
+      subst (λ (y : ListResult). Writes size l y (Elements i)) q (wrote (v .written ∙ ap (λ (y : ℕ). v .front ++ replicate (size - y) 0) (sym (v .front-long))))
 
 -- A String as the one element.
 module _ (ws text : List ℕ) (n : ℕ) (l : List ℕ) where

@@ -5,15 +5,15 @@ use mathlib.Core.Logic.{_≢_}
 use mathlib.Core.List.{List, [], _∷_}
 use Rattle.row.specs.Row.{childWord, nextWord}
 use Rattle.row.specs.Words.{recordCount, word}
-use Rattle.records.specs.Siblings.{chain, children, Ends, Linked}
+use Rattle.records.specs.Siblings.{chain, children, ChainEnds, Linked}
 use Rattle.records.proofs.Chains.{chain-end, step, ends-next, children-end}
 
 pub record Along {A : Type 0} (ws : List ℕ) (F : List ℕ → A) (whole : A) (cur : ℕ) : Type 0 where
-  pub ends : Ends ws cur
+  pub ends : ChainEnds ws (recordCount ws) cur
   pub so-far : F (chain ws (recordCount ws) cur) ≡ whole
 
 -- From the first child of record n.
-pub along-start : {A : Type 0} (ws : List ℕ) (F : List ℕ → A) (n : ℕ) → Linked ws → n < recordCount ws
+pub along-start : {A : Type 0} (ws : List ℕ) (F : List ℕ → A) (n : ℕ) → Linked ws (recordCount ws) → n < recordCount ws
     → Along ws F (F (children ws n)) (word ws n childWord)
 along-start ws F n k l = record { ends = children-end k n l; so-far = refl }
 

@@ -14,12 +14,12 @@ use Rattle.fields.specs.Fields.{Field, found}
 use Rattle.fields.specs.Texts.{textOf}
 
 -- The number of elements, and "offset and length for each"; or a refusal.
-pub data Listed : Type 0 where
-  listed : ℕ → List ℕ → Listed
-  refused : Refusal → Listed
+pub data ListResult : Type 0 where
+  listed : ℕ → List ℕ → ListResult
+  refused : Refusal → ListResult
 
 -- An element's text before those of the later ones. "The first met stands."
-abbrev pub prepend : TextRead → Listed → Listed
+abbrev pub prepend : TextRead → ListResult → ListResult
 prepend (Text o n) (listed count words) = listed (suc count) (o ∷ n ∷ words)
 prepend (Text o n) (refused x) = refused x
 prepend (Refused x) later = refused x
@@ -36,7 +36,7 @@ abbrev pub elementText : DuplicateKeyBehavior → ℕ → Label → Value → Te
 elementText duplicates i label value = cond (isNext i label) (textOf duplicates value) (Refused MissingIndex)
 
 -- "Elements are read in turn as text", from index i on.
-abbrev pub inTurn : DuplicateKeyBehavior → ℕ → Forest → Listed
+abbrev pub inTurn : DuplicateKeyBehavior → ℕ → Forest → ListResult
 inTurn duplicates i none = listed 0 []
 inTurn duplicates i (child number row value later) =
     prepend (elementText duplicates i (row .label) value) (inTurn duplicates (suc i) later)
@@ -47,7 +47,7 @@ childCount none = 0
 childCount (child number row value later) = suc (childCount later)
 
 -- "22 slice below two words an element; then at each element's turn"
-abbrev pub elements : DuplicateKeyBehavior → ℕ → Forest → Listed
+abbrev pub elements : DuplicateKeyBehavior → ℕ → Forest → ListResult
 elements duplicates size children =
     cond (ltb size (2 * childCount children)) (refused ShortSlice) (inTurn duplicates 0 children)
 
@@ -63,7 +63,7 @@ intKeys (child number row value later) = cond (isIntKey (row .label)) (intKeys l
 
 -- "Null or NoValue, none; String, one; Sequence, all; Map of Int keys only", into a slice of so many words. (The
 -- record number and the key of the one element that a String is are not looked at.)
-abbrev pub listOf : DuplicateKeyBehavior → ℕ → Value → Listed
+abbrev pub listOf : DuplicateKeyBehavior → ℕ → Value → ListResult
 listOf duplicates size uninitialized = refused WrongKind
 listOf duplicates size null = listed 0 []
 listOf duplicates size noValue = listed 0 []
@@ -72,6 +72,6 @@ listOf duplicates size (map children) = cond (intKeys children) (elements duplic
 listOf duplicates size (sequence children) = elements duplicates size children
 
 -- The list of a field, into a slice of so many words.
-abbrev pub listOfField : DuplicateKeyBehavior → ℕ → Field → Listed
+abbrev pub listOfField : DuplicateKeyBehavior → ℕ → Field → ListResult
 listOfField duplicates size (found value) = listOf duplicates size value
 listOfField duplicates size (Field.refused x) = refused x

@@ -8,7 +8,7 @@ use lib.Dec.{eqb, ltb}
 use lib.ListN.{length, replicate}
 use Rattle.utf8.specs.Test.{utf8}
 use Rattle.row.specs.Words.{textPart}
-use Rattle.row.specs.Row.{kindWord, keyKindWord, keyWord, keyLengthWord, textWord, textLengthWord, childWord}
+use Rattle.row.specs.Row.{kindWord, keyKindWord, keyWord, keyLenWord, textWord, textLenWord, childWord}
 use Rattle.row.specs.Row.{nextWord, uninitializedKind, mapKind, sequenceKind, stringKind, nullKind, noValueKind}
 use Rattle.row.specs.Row.{noKeyKind, intKeyKind, stringKeyKind}
 use Rattle.row.specs.Words.{recordCount, word}
@@ -25,19 +25,19 @@ use Rattle.fields.specs.declared.text.TextRead.the-variants.{Text, Refus
 use Rattle.fields.specs.declared.list.ListRead.{ListRead}
 use Rattle.fields.specs.declared.list.ListRead.the-variants.{Elements, Refused as RefusedList}
 use Rattle.fields.specs.Fields.{sameBytes}
-use Rattle.fields.specs.Lists.{Listed, listed, refused, prepend}
+use Rattle.fields.specs.Lists.{ListResult, listed, refused, prepend}
 
 -- What the functions ask of the words and the text: records linked in lists that end, keys and values that lie in the
 -- text.
 pub record Readable (ws text : List ℕ) : Type 0 where
-  pub formed : WellFormed ws text
-  pub values : (n : ℕ) → n < recordCount ws → word ws n textWord + word ws n textLengthWord ≤ length text
+  pub formed : WellFormed ws text (recordCount ws)
+  pub values : (n : ℕ) → n < recordCount ws → word ws n textWord + word ws n textLenWord ≤ length text
 
 -- The text of a String.
 unfoldable pub stringTextAt : List ℕ → List ℕ → ℕ → TextRead
 stringTextAt ws text n =
-    cond (utf8 (textPart text (word ws n textWord) (word ws n textLengthWord)))
-    (Text (word ws n textWord) (word ws n textLengthWord))
+    cond (utf8 (textPart text (word ws n textWord) (word ws n textLenWord)))
+    (Text (word ws n textWord) (word ws n textLenWord))
     (Refused NotUtf8)
 
 -- The text of record n where it is no Sequence.
@@ -69,7 +69,7 @@ textAt duplicates ws text n =
 unfoldable pub isNamedAt : List ℕ → List ℕ → List ℕ → ℕ → Bool
 isNamedAt ws text name n =
     cond (eqb (word ws n keyKindWord) stringKeyKind)
-    (sameBytes (textPart text (word ws n keyWord) (word ws n keyLengthWord)) name) false
+    (sameBytes (textPart text (word ws n keyWord) (word ws n keyLenWord)) name) false
 
 -- The first record of that name in a list of siblings.
 unfoldable pub namedAt : List ℕ → List ℕ → List ℕ → List ℕ → FieldAt
@@ -105,22 +105,22 @@ unfoldable pub elementAt : DuplicateKeyBehavior → List ℕ → List ℕ → �
 elementAt duplicates ws text i n = cond (isNextAt ws i n) (textAt duplicates ws text n) (Refused MissingIndex)
 
 -- The texts of the records of a list, from index i on.
-unfoldable pub inTurnAt : DuplicateKeyBehavior → List ℕ → List ℕ → ℕ → List ℕ → Listed
+unfoldable pub inTurnAt : DuplicateKeyBehavior → List ℕ → List ℕ → ℕ → List ℕ → ListResult
 inTurnAt duplicates ws text i [] = listed 0 []
 inTurnAt duplicates ws text i (m ∷ ms) =
     prepend (elementAt duplicates ws text i m) (inTurnAt duplicates ws text (suc i) ms)
 
 -- The children of record n as a list's elements, into a slice of so many words.
-unfoldable pub elementsAt : DuplicateKeyBehavior → List ℕ → List ℕ → ℕ → ℕ → Listed
+unfoldable pub elementsAt : DuplicateKeyBehavior → List ℕ → List ℕ → ℕ → ℕ → ListResult
 elementsAt duplicates ws text size n =
     cond (ltb size (2 * length (children ws n))) (refused ShortSlice) (inTurnAt duplicates ws text 0 (children ws n))
 
 -- A String as a list's one element.
-unfoldable pub oneAt : List ℕ → List ℕ → ℕ → ℕ → Listed
+unfoldable pub oneAt : List ℕ → List ℕ → ℕ → ℕ → ListResult
 oneAt ws text size n = cond (ltb size 2) (refused ShortSlice) (prepend (singleTextAt ws text n) (listed 0 []))
 
 -- The list of record n, into a slice of so many words.
-unfoldable pub listAt : DuplicateKeyBehavior → List ℕ → List ℕ → ℕ → ℕ → Listed
+unfoldable pub listAt : DuplicateKeyBehavior → List ℕ → List ℕ → ℕ → ℕ → ListResult
 listAt duplicates ws text size n =
     cond (eqb (word ws n kindWord) stringKind) (oneAt ws text size n)
     (cond (eqb (word ws n kindWord) sequenceKind) (elementsAt duplicates ws text size n)
@@ -130,13 +130,13 @@ listAt duplicates ws text size n =
     (listed 0 []))))
 
 -- The list of the field.
-abbrev pub fieldListAt : DuplicateKeyBehavior → List ℕ → List ℕ → ℕ → FieldAt → Listed
+abbrev pub fieldListAt : DuplicateKeyBehavior → List ℕ → List ℕ → ℕ → FieldAt → ListResult
 fieldListAt duplicates ws text size (Record n) = listAt duplicates ws text size n
 fieldListAt duplicates ws text size (RefusedField x) = refused x
 
 -- What a list read answers and leaves in a slice of so many words: the elements' words and zeros; or, after a
 -- refusal, anything, since a list read clears the slice then.
-pub data Writes (size : ℕ) (l : List ℕ) : Listed → ListRead → Type 0 where
+pub data Writes (size : ℕ) (l : List ℕ) : ListResult → ListRead → Type 0 where
   wrote :
       {count : ℕ} {words : List ℕ}
       → l ≡ words ++ replicate (size - length words) 0 → Writes size l (listed count words) (Elements count)

@@ -31,7 +31,7 @@ fn write_element(list: &mut [u32], i: usize, offset: u32, len: u32)
 
 // Whether every child of a record has an Int key.
 fn has_int_keys(words: &[u32], n: u32) -> bool
-    requires { ⌜ Linked (now words) ⌝ ∗ ⌜ n < recordCount (now words) ⌝ }
+    requires { ⌜ Linked (now words) (recordCount (now words)) ⌝ ∗ ⌜ n < recordCount (now words) ⌝ }
     ensures { λ r. ⌜ r ≡ intKeysAt (now (words .entry)) (children (now (words .entry)) n) ⌝ }
 {
     let mut cur = row::get_word(words, n, row::CHILD);
@@ -47,7 +47,7 @@ fn has_int_keys(words: &[u32], n: u32) -> bool
 
 // How many children a record has.
 fn count_children(words: &[u32], n: u32) -> usize
-    requires { ⌜ Linked (now words) ⌝ ∗ ⌜ n < recordCount (now words) ⌝ }
+    requires { ⌜ Linked (now words) (recordCount (now words)) ⌝ ∗ ⌜ n < recordCount (now words) ⌝ }
     ensures { λ r. ⌜ r ≡ length (children (now (words .entry)) n) ⌝ }
 {
     let mut count: usize = 0;

@@ -25,7 +25,8 @@ module _ (text bytes : List ℕ) (i : ℕ) where
   unfolding begins
   begins-other h k n = rw (drop-1 text i h, drop-1 bytes i k, ne-eqb (getD text i 0) (getD bytes i 0) n)
 
-  pub begins-more : i < length text → i < length bytes → getD text i 0 ≡ getD bytes i 0 → begins (drop (i + 1) text) (drop (i + 1) bytes) ≡ begins (drop i text) (drop i bytes)
+  pub begins-more : i < length text → i < length bytes → getD text i 0 ≡ getD bytes i 0
+      → begins (drop (i + 1) text) (drop (i + 1) bytes) ≡ begins (drop i text) (drop i bytes)
   unfolding begins
   begins-more h k e = rw (drop-1 text i h, drop-1 bytes i k, eq-eqb (getD text i 0) (getD bytes i 0) e)
 
@@ -50,7 +51,8 @@ module _ (bytes : List ℕ) (i : ℕ) where
   unfolding leadingDigits
   digits-high h l k = rw (drop-1 bytes i h, le-leb 48 (getD bytes i 0) l, lt-leb (getD bytes i 0) 57 k)
 
-  pub digits-more : i < length bytes → 48 ≤ getD bytes i 0 → getD bytes i 0 ≤ 57 → leadingDigits (drop i bytes) ≡ getD bytes i 0 ∷ leadingDigits (drop (i + 1) bytes)
+  pub digits-more : i < length bytes → 48 ≤ getD bytes i 0 → getD bytes i 0 ≤ 57
+      → leadingDigits (drop i bytes) ≡ getD bytes i 0 ∷ leadingDigits (drop (i + 1) bytes)
   unfolding leadingDigits
   digits-more h l k = rw (drop-1 bytes i h, le-leb 48 (getD bytes i 0) l, le-leb (getD bytes i 0) 57 k)
 
@@ -161,7 +163,8 @@ module _ (bytes : List ℕ) {n : ℕ} {b : Bool} (count : n ≡ length (leadingD
     pub depth-digits : (allDigits (take (n - 0) bytes) ≡ true) × (0 < length (take (n - 0) bytes)) × (length (take (n - 0) bytes) ≤ 3)
     depth-digits = let l = depth-length (take (n - 0) bytes) (sym test ∙ e) in (rw digits (leading-digits bytes), l .0, l .1)
 
-    pub a-depth : {depth : ℕ} {r : Head} → depth ≡ valueFrom 0 (take (n - 0) bytes) → r ≡ flagIn depth (n + 14) (take (length bytes - n) (drop n bytes)) → r ≡ depthIn bytes
+    pub a-depth : {depth : ℕ} {r : Head} → depth ≡ valueFrom 0 (take (n - 0) bytes) → r ≡ flagIn depth (n + 14) (take (length bytes - n) (drop n bytes))
+        → r ≡ depthIn bytes
     unfolding depthIn
     a-depth d f = f ∙ rw (mid-tail n bytes, d, digits, count, ← digits, ← test, e)
 

@@ -30,10 +30,11 @@ use Rattle.listing.proofs.Complete.{complete}
 use Rattle.listing.proofs.Room.{room}
 use Rattle.head.proofs.Heads.{Inside, head-inside}
 use Rattle.list.specs.Reply.{replyTo, reply}
-use Rattle.list.specs.Lending.{lentRecords, lentBytes, Lent, counted, WroteAll}
+use Rattle.list.specs.Lending.{lentRecords, lentBytes, LentSlices, counted, WroteAll}
 
 -- Bytes that fit are written whole, and counted.
-module _ (bytes out out′ : List ℕ) {told : Written} {r : ℕ} (answered : told ≡ answerFor bytes out) (output : out′ ≡ filled bytes out) (count : r ≡ counted told) where
+module _ (bytes out out′ : List ℕ) {told : Written} {r : ℕ} (answered : told ≡ answerFor bytes out) (output : out′ ≡ filled bytes out)
+    (count : r ≡ counted told) where
   pub written : length bytes ≤ length out → WroteAll bytes out out′ r
   written h =
       record {
@@ -46,7 +47,7 @@ pub count-inside : (bytes out out′ : List ℕ) {n : ℕ} → WroteAll bytes ou
 count-inside bytes out out′ w = rw (w .output, length-append) (omega (arith, w .count))
 
 -- A reading's listing fits, since its words are u32s.
-module _ (config : Config) (input words text out : List ℕ) (lent : Lent words text out) where
+module _ (config : Config) (input words text out : List ℕ) (lent : LentSlices words text out) where
   used : ((reading config input words text) .answer .records ≤ lentRecords) × ((reading config input words text) .answer .bytes ≤ lentBytes)
   used =
       let o = reading config input words text in
@@ -81,7 +82,8 @@ module _ (config : Config) (input words text out : List ℕ) (lent : Lent words 
       let e : o ≡ reading config input words text = ap (λ a. outcomeFrom a words′ text′) is ∙ read in
       let whole : boundedListing o ≡ listing (reading config input words text) = ap boundedListing e ∙ complete config input words text .whole in
       let long = fits (subst (λ a. (i : ℕ) → getD (a .words) i 0 < 2 ^ 32) e u32s) in
-      subst (λ bytes. WroteAll bytes out out′ r) whole (written (boundedListing o) out out′ answered output count (subst (λ bytes. length bytes ≤ length out) (sym whole) long))
+      subst (λ bytes. WroteAll bytes out out′ r) whole
+      (written (boundedListing o) out out′ answered output count (subst (λ bytes. length bytes ≤ length out) (sym whole) long))
 
 -- The query string starts inside the input.
 pub start-inside : (input : List ℕ) {head : Head} {depth start : ℕ} {form : Bool} → head ≡ headOf input → head ≡ Good depth form start → start ≤ length input
@@ -93,6 +95,7 @@ module _ (input words text out out′ : List ℕ) {head : Head} {r : ℕ} (told 
   bad-reply e w = subst (λ h. WroteAll (replyTo h input words text) out out′ r) (sym e ∙ told) w
 
   pub good-reply : {depth start : ℕ} {form : Bool} {config : Config} → head ≡ Good depth form start → config ≡ settings depth form
-      → WroteAll (listing (reading config (take (length input - start) (drop start input)) words text)) out out′ r → WroteAll (reply input words text) out out′ r
+      → WroteAll (listing (reading config (take (length input - start) (drop start input)) words text)) out out′ r
+      → WroteAll (reply input words text) out out′ r
   good-reply {start = start} e f w =
       subst (λ h. WroteAll (replyTo h input words text) out out′ r) (sym e ∙ told) (rw (f, mid-tail start input) at w)

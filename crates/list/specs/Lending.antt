@@ -32,7 +32,7 @@ readBytes = longestHead + (longestQuery + 1)
 abbrev pub outputBytes : ℕ
 outputBytes = 262144
 
-pub record Lent (words text out : List ℕ) : Type 0 where
+pub record LentSlices (words text out : List ℕ) : Type 0 where
   pub records : length words ≡ lentRecords * recordWidth
   pub bytes : length text ≡ lentBytes
   pub output : length out ≡ outputBytes

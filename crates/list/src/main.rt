@@ -5,7 +5,7 @@ ghost use mathlib.Core.Path.{_≡_};
 ghost use Rattle.reading.specs.Reading.{reading};
 ghost use Rattle.listing.specs.Listing.{listing};
 ghost use Rattle.list.specs.Reply.{reply};
-ghost use Rattle.list.specs.Lending.{Lent, counted, WroteAll};
+ghost use Rattle.list.specs.Lending.{LentSlices, counted, WroteAll};
 use config::Config;
 use head::Head;
 use libc::STDIN_FILENO;
@@ -42,7 +42,7 @@ fn respond_to(
     text: &mut [u8],
     out: &mut [u8],
 ) -> usize
-    requires { ⌜ Lent (now words) (now text) (now out) ⌝ }
+    requires { ⌜ LentSlices (now words) (now text) (now out) ⌝ }
     ensures { λ r. ⌜ WroteAll
         (listing (reading config (now (query .entry)) (now (words .entry)) (now (text .entry))))
         (now (out .entry)) (now (out .exit)) r ⌝ }
@@ -53,7 +53,7 @@ fn respond_to(
 
 // Writes what the program prints for an input. The rest of the output stays as it was.
 fn respond(input: &[u8], words: &mut [u32], text: &mut [u8], out: &mut [u8]) -> usize
-    requires { ⌜ Lent (now words) (now text) (now out) ⌝ }
+    requires { ⌜ LentSlices (now words) (now text) (now out) ⌝ }
     ensures { λ r. ⌜ WroteAll (reply (now (input .entry)) (now (words .entry)) (now (text .entry)))
         (now (out .entry)) (now (out .exit)) r ⌝ }
 {
@@ -67,7 +67,7 @@ fn respond(input: &[u8], words: &mut [u32], text: &mut [u8], out: &mut [u8]) -> 
 
 // Prints the reply to an input.
 fn run(input: &[u8], words: &mut [u32], text: &mut [u8], out: &mut [u8])
-    requires { ⌜ Lent (now words) (now text) (now out) ⌝ }
+    requires { ⌜ LentSlices (now words) (now text) (now out) ⌝ }
 {
     let n = respond(input, words, text, out);
     io::write_all(STDOUT_FILENO, &out[0..n]);

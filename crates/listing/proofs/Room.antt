@@ -14,11 +14,11 @@ use Rattle.reading.specs.declared.Reading.{Reading}
 use Rattle.reading.specs.Reading.{reading}
 use Rattle.reading.specs.Values.{unkeyed, intKey, stringKey, labelKey, rowKey, Value, Forest, child}
 use Rattle.reading.specs.Trees.{Tree, uninitialized, null, noValue, string, map, sequence, plain, entries, elements}
-use Rattle.row.specs.Row.{kindWord, keyKindWord, keyWord, keyLengthWord, textWord, textLengthWord, childWord, nextWord}
+use Rattle.row.specs.Row.{kindWord, keyKindWord, keyWord, keyLenWord, textWord, textLenWord, childWord, nextWord}
 use Rattle.row.specs.Row.{mapKind, sequenceKind, stringKind, nullKind, noValueKind, intKeyKind}
 use Rattle.row.specs.Words.{word, textPart}
 use Rattle.reading.specs.Buffers.{rowIn, byKind, valueWithin, forestWithin, valueIn}
-use Rattle.reading.specs.Counts.{values, entryValues, elementValues, keyLength, textBytes, entryBytes, elementBytes}
+use Rattle.reading.specs.Counts.{values, entryValues, elementValues, keyLen, textBytes, entryBytes, elementBytes}
 use Rattle.reading.proofs.Outcomes.{counts}
 use Rattle.output.proofs.Lengths.{decimal-length, hex-length}
 use Rattle.listing.specs.Lines.{keyItem, kindName, textItem, ownLines, treeLines, entryLines, elementLines}
@@ -51,7 +51,7 @@ abbrev mutual
 -- The bytes of text that a value's own lines show.
 abbrev shownBytes : Option Key → ℕ
 shownBytes none = 0
-shownBytes (some key) = keyLength key
+shownBytes (some key) = keyLen key
 
 abbrev ownBytes : Tree → ℕ
 ownBytes (map es) = 0
@@ -95,7 +95,8 @@ mutual
   value-length (Value.map children) level key h k q =
       simp length-append (omega (arith, own-length level key (map (entries children)) (omega arith) k, entries-length children (level + 1) h (omega arith)))
   value-length (Value.sequence children) level key h k q =
-      simp length-append (omega (arith, own-length level key (sequence (elements children)) (omega arith) k, elements-length children (level + 1) h (omega arith)))
+      simp length-append
+      (omega (arith, own-length level key (sequence (elements children)) (omega arith) k, elements-length children (level + 1) h (omega arith)))
   value-length (Value.string o x) level key h k q = simp length-append (omega (arith, own-length level key (string x) (omega arith) k))
   value-length Value.null level key h k q = simp length-append (omega (arith, own-length level key null (omega arith) k))
   value-length Value.noValue level key h k q = simp length-append (omega (arith, own-length level key noValue (omega arith) k))
@@ -122,7 +123,8 @@ module _ (words text : List ℕ) (small : (i : ℕ) → getD words i 0 < 2 ^ 32)
   narrow-row keyed i = go keyed (eqb (word words i keyKindWord) intKeyKind)
     where
       go : (b c : Bool) → NarrowKey (labelKey (cond b
-          (cond c (intKey (word words i keyWord)) (stringKey (word words i keyWord) (textPart text (word words i keyWord) (word words i keyLengthWord)))) unkeyed))
+          (cond c (intKey (word words i keyWord))
+          (stringKey (word words i keyWord) (textPart text (word words i keyWord) (word words i keyLenWord)))) unkeyed))
       go true true = small _
       go true false = tt
       go false c = tt
@@ -138,7 +140,7 @@ module _ (words text : List ℕ) (small : (i : ℕ) → getD words i 0 < 2 ^ 32)
     narrow-value zero i = tt
     narrow-value (suc steps) i =
         let k = word words i kindWord in
-        narrow-kind k (word words i textWord) (textPart text (word words i textWord) (word words i textLengthWord))
+        narrow-kind k (word words i textWord) (textPart text (word words i textWord) (word words i textLenWord))
         (forestWithin steps (eqb k mapKind) words text (word words i childWord)) (narrow-forest steps (eqb k mapKind) (word words i childWord))
 
     narrow-forest : (steps : ℕ) (keyed : Bool) (i : ℕ) → NarrowForest (forestWithin steps keyed words text i)

@@ -10,7 +10,7 @@ use lib.Dec.{eqb}
 use lib.ListN.{length, take}
 use lib.Seq.{take-nil}
 use Rattle.key.specs.Keys.{Key}
-use Rattle.row.specs.Row.{kindWord, textWord, textLengthWord, childWord, nextWord, mapKind, sequenceKind}
+use Rattle.row.specs.Row.{kindWord, textWord, textLenWord, childWord, nextWord, mapKind, sequenceKind}
 use Rattle.row.specs.Words.{recordCount, word, textPart}
 use Rattle.reading.specs.Values.{Row, rowKey, Value, Forest, child}
 use Rattle.reading.specs.Trees.{Tree, uninitialized, null, noValue, string, map, sequence, plain}
@@ -73,7 +73,7 @@ module _ (words text : List ℕ) where
       → treeLines (treeWithin (suc steps) i) level key
       ≡ ownLines level key (childless words text i) ∷ cond (hasChildren (word words i kindWord)) (below steps i (level + 1)) []
   tree-more steps i level key =
-      lines-of-kind (word words i kindWord) (word words i textWord) (textPart text (word words i textWord) (word words i textLengthWord))
+      lines-of-kind (word words i kindWord) (word words i textWord) (textPart text (word words i textWord) (word words i textLenWord))
       (forestWithin steps (eqb (word words i kindWord) mapKind) words text (word words i childWord)) level key
 
   -- The first values of a tree, by the first below it.
@@ -84,9 +84,11 @@ module _ (words text : List ℕ) where
       ∙ ap (λ t. ownLines level key (childless words text i) ∷ t) (take-cond n (hasChildren (word words i kindWord)) (below g i (level + 1)))
 
   child-more : (keyed : Bool) (steps i level : ℕ) → childLines keyed (suc steps) words text i level
-      ≡ cond (eqb i 0) [] (treeLines (treeWithin steps i) level (keyShown keyed words text i) ++ childLines keyed steps words text (word words i nextWord) level)
+      ≡ cond (eqb i 0) [] (treeLines (treeWithin steps i) level (keyShown keyed words text i)
+      ++ childLines keyed steps words text (word words i nextWord) level)
   child-more keyed steps i level =
-      forest-lines keyed (eqb i 0) i (rowIn keyed words text i) (valueWithin steps words text i) (forestWithin steps keyed words text (word words i nextWord)) level
+      forest-lines keyed (eqb i 0) i (rowIn keyed words text i) (valueWithin steps words text i)
+      (forestWithin steps keyed words text (word words i nextWord)) level
 
   -- Two steps a value are enough.
   mutual
@@ -154,7 +156,9 @@ module _ (words text : List ℕ) where
 
     pub single-first : (kind ≡ mapKind → ⊥) → (kind ≡ sequenceKind → ⊥) → firstOfValue n words text i keyed level
         ≡ recordLines words text i keyed level ∷ []
-    single-first e f = value-first n i keyed level some ∙ rw (ne-eqb (word words i kindWord) mapKind (λ g. e (at ∙ g)), ne-eqb (word words i kindWord) sequenceKind (λ g. f (at ∙ g)))
+    single-first e f =
+        value-first n i keyed level some
+        ∙ rw (ne-eqb (word words i kindWord) mapKind (λ g. e (at ∙ g)), ne-eqb (word words i kindWord) sequenceKind (λ g. f (at ∙ g)))
 
   -- The first n values from record i along its siblings: those of the value there, and then as many as are left of the later ones.
   pub siblings-first : (n i : ℕ) (keyed : Bool) (level : ℕ) → (n ≡ 0 → ⊥) → (i ≡ 0 → ⊥) → firstOfSiblings n words text i keyed level

@@ -7,7 +7,7 @@ use mathlib.Core.List.{List, [], flatten}
 use lib.ListN.{length, take}
 use Rattle.key.specs.Keys.{Key}
 use Rattle.ascii.specs.Texts.{ascii}
-use Rattle.row.specs.Row.{kindWord, textWord, textLengthWord}
+use Rattle.row.specs.Row.{kindWord, textWord, textLenWord}
 use Rattle.row.specs.Words.{word, textPart}
 use Rattle.reading.specs.Values.{rowKey, Value, Forest}
 use Rattle.reading.specs.Trees.{Tree, plain, entries, elements}
@@ -22,7 +22,7 @@ keyShown keyed words text i = cond keyed (some (rowKey (rowIn keyed words text i
 -- The value at record i without its children.
 abbrev pub childless : List ℕ → List ℕ → ℕ → Tree
 childless words text i =
-    let bytes = textPart text (word words i textWord) (word words i textLengthWord) in
+    let bytes = textPart text (word words i textWord) (word words i textLenWord) in
     plain (byKind (word words i kindWord) (Value.string (word words i textWord) bytes) Forest.none)
 
 -- The name of a kind. It is the same whatever a String's bytes are.

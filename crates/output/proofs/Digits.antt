@@ -31,7 +31,8 @@ decimal-enough zero zero n p q = refl
 decimal-enough zero (suc k) n p q = rw (lt-ltb n 10 (omega arith))
 decimal-enough (suc j) zero n p q = rw (lt-ltb n 10 (omega arith))
 decimal-enough (suc j) (suc k) n p q =
-    below n 10 (λ h. rw (lt-ltb n 10 h)) (λ h. ap (λ front. cond (ltb n 10) [] front ++ ((48 + n % 10) ∷ [])) (decimal-enough j k (n / 10) (omega arith) (omega arith)))
+    below n 10 (λ h. rw (lt-ltb n 10 h))
+    (λ h. ap (λ front. cond (ltb n 10) [] front ++ ((48 + n % 10) ∷ [])) (decimal-enough j k (n / 10) (omega arith) (omega arith)))
 
 decimal-digit : (n : ℕ) → n < 10 → decimal n ≡ (48 + n % 10) ∷ []
 unfolding decimal decimalIn

@@ -1,5 +1,6 @@
 pub mod Moves
 pub mod Performing
-pub mod Values
+pub mod Targets
 pub mod Levels
+pub mod Additions
 pub mod Roots

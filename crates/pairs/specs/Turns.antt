@@ -1,117 +1,196 @@
 -- What the functions of this crate ensure: the reading goes on, or is refused, as the definitions have it.
-use Prim.Native.Nat.{ℕ, _≤_, _<_}
+use Prim.Native.Nat.{ℕ, zero, suc, _+_, _≤_, _<_}
 use mathlib.Core.Path.{_≡_}
-use mathlib.Core.Bool.{true, not, cond}
-use mathlib.Core.List.{List, []}
+use mathlib.Core.Bool.{true, false, not, cond}
+use mathlib.Core.Option.{Option, none, some}
+use mathlib.Core.List.{List, [], _∷_, _++_}
 use lib.Dec.{eqb, ltb}
 use lib.ListN.{length}
 use Rattle.config.specs.declared.Config.{Config}
-use Rattle.key.specs.Keys.{Key}
+use Rattle.decode.specs.Decoding.{decoded}
+use Rattle.key.specs.declared.KeyKind.{KeyKind}
+use Rattle.key.specs.declared.KeyKind.the-variants.{None, Int, String}
+use Rattle.key.specs.Keys.{Key, int, str}
+use Rattle.key.specs.Collected.{collected, keyIn}
+use Rattle.reading.specs.declared.LeafKind.the-variants.{NoValue}
 use Rattle.reading.specs.Values.{Node}
-use Rattle.reading.specs.Scanning.{Mode, rootKey, bracket, keyBelowDepth, keyAtDepth, Step}
+use Rattle.reading.specs.Leaves.{noValue}
+use Rattle.reading.specs.Taking.{Symbol, ampersand, equals, opening, closing, other}
+use Rattle.reading.specs.Scanning.{Target, root, under, last, Command, skip, enter, needSequence, add, Step, _then_}
+use Rattle.reading.specs.Scanning.{Mode, rootKey, value, bracket, keyBelowDepth, keyAtDepth}
 use Rattle.reading.specs.Running.{Answer, accepted, refusedAt}
-use Rattle.cursor.specs.declared.taking.Cursor.{Cursor}
+use Rattle.cursor.specs.declared.taking.Symbol.the-variants.{Equals, End}
 use Rattle.cursor.specs.declared.taking.Taken.{Taken}
 use Rattle.cursor.specs.declared.scanning.Until.the-variants.{RootKey}
 use Rattle.cursor.specs.Segments.{segment}
-use Rattle.cursor.specs.Takings.{yielded, Took}
-use Rattle.cursor.specs.Scans.{stops}
+use Rattle.cursor.specs.Takings.{yielded, sameSymbol}
+use Rattle.cursor.specs.Scans.{stops, Scan}
+use Rattle.cursor.specs.Collected.{ValueIs}
 use Rattle.tree.specs.declared.Here.{Here}
 use Rattle.tree.specs.declared.Performed.{Performed}
 use Rattle.tree.specs.declared.Performed.the-variants.{Made, Refused as RefusedThere}
 use Rattle.tree.specs.Stored.{Stores, usedBy}
 use Rattle.pairs.specs.declared.turning.Turn.{Turn}
 use Rattle.pairs.specs.declared.turning.Turn.the-variants.{Going, Refused}
-use Rattle.pairs.specs.declared.turning.Nested.{Nested}
+use Rattle.pairs.specs.declared.turning.Bracket.{Bracket}
+use Rattle.pairs.specs.declared.turning.ScannedKey.{ScannedKey}
 use Rattle.pairs.specs.declared.turning.Level.{Level}
 use Rattle.pairs.specs.declared.turning.Level.the-variants.{Deeper, Turned}
-use Rattle.pairs.specs.Progress.{still, stepBy, Reads}
+use Rattle.pairs.specs.declared.nested.PairValue.{PairValue}
+use Rattle.pairs.specs.Progress.{still, Start, placeAt, Moment, moment, Reads}
 
--- A command that ends a pair, or enters a key before a bracket, by its answer.
+-- A command that ends a pair, by its answer.
 abbrev pub turnOf : Performed → ℕ → Turn
-turnOf (Made there) place = Going place there
-turnOf (RefusedThere x) place = Refused x place
+turnOf (Made there) index = Going index there
+turnOf (RefusedThere x) index = Refused x index
 
-abbrev pub levelOf : Performed → ℕ → Cursor → Level
-levelOf (Made there) level cursor = Deeper (record { here = there; level = level; cursor = cursor })
-levelOf (RefusedThere x) level cursor = Turned (Refused x (cursor .place))
+-- Where the value of a pair goes, by the key that is scanned, its raw segment, and the level that a `[` behind it
+-- opens: under the key; without one, at level 0 to the root, else last in the sequence.
+abbrev pub targetAt : KeyKind → ℕ → List ℕ → List Key → Target
+targetAt None zero raw path = root
+targetAt None (suc level) raw path = last path
+targetAt (Int n) level raw path = under path (int n)
+targetAt String level raw path = under path (str (decoded raw))
 
--- After a pair: the next one starts, not before a place `low`; or the reading is refused.
-abbrev pub Onward : Config → List ℕ → List ℕ → List ℕ → ℕ → Answer → Turn → Type 0
-Onward config input words text low answer (Going place here) =
-    Reads config input words text here place (still (λ path. rootKey [])) answer × (low ≤ place)
-Onward config input words text low answer (Refused x place) = answer ≡ refusedAt x place
+abbrev pub target : List ℕ → ScannedKey → List Key → Target
+target input scanned =
+    targetAt (scanned .key) (scanned .level) (segment input (scanned .segment .start) (scanned .segment .end))
 
--- The last taking is inside the input.
-abbrev pub Inside : List ℕ → Nested → Type 0
-Inside input nested = (nested .cursor .end ≤ nested .cursor .place) × (nested .cursor .place ≤ length input)
+-- What comes before a value is added to a target, and the path that leads to the record then.
+abbrev pub reach : Target → Command
+reach root = skip
+reach (under path key) = enter path key
+reach (last path) = needSequence path
 
--- In brackets, straight after a `[`, which is the cursor's last taking.
-abbrev pub opened : List ℕ → Nested → List Key → Mode
-opened input nested path = bracket path (nested .level) (segment input (nested .cursor .end) (nested .cursor .place))
+abbrev pub reached : Target → List Key
+reached root = []
+reached (under path key) = path ++ (key ∷ [])
+reached (last path) = path
 
--- In a key, with the cursor's segment so far, which runs on to the place: below the depth, at the depth, and either.
-abbrev pub inKeyBelow : List ℕ → Nested → List Key → Mode
-inKeyBelow input nested path =
-    keyBelowDepth path (nested .level) (segment input (nested .cursor .start) (nested .cursor .place))
+-- What is due after a taking behind a key: `=` starts its value, `[` opens the next level, and `&` and the end add
+-- NoValue. `]` and another byte don't stand there (`Behind`, below).
+abbrev pub behindKey : Target → ℕ → Option Symbol → List ℕ → Step
+behindKey target level (some equals) raw = skip then value target []
+behindKey target level (some opening) raw = reach target then bracket (reached target) level raw
+behindKey target level (some ampersand) raw = add target noValue then rootKey []
+behindKey target level (some closing) raw = add target noValue then rootKey []
+behindKey target level (some other) raw = add target noValue then rootKey []
+behindKey target level none raw = add target noValue then rootKey []
 
-abbrev pub inKeyAt : List ℕ → Cursor → List Key → Mode
-inKeyAt input cursor path = keyAtDepth path (segment input (cursor .start) (cursor .place))
+abbrev pub due : List ℕ → ScannedKey → List Key → Step
+due input scanned path =
+    behindKey (target input scanned path) (scanned .level) (yielded (scanned .taken .symbol))
+    (segment input (scanned .taken .cursor .end) (scanned .taken .cursor .place))
 
-abbrev pub inKey : Config → List ℕ → Nested → List Key → Mode
-inKey config input nested path =
-    cond (ltb (nested .level) (config .depth)) (inKeyBelow input nested path) (inKeyAt input (nested .cursor) path)
+-- A key is scanned, and one taking behind it, of what may stand there.
+pub record Behind (input : List ℕ) (scanned : ScannedKey) : Type 0 where
+  -- a key has a segment that isn't empty
+  pub unkeyed : scanned .key ≡ None → scanned .segment .start ≡ scanned .segment .end
+  pub keyed : scanned .segment .start ≡ scanned .segment .end → scanned .key ≡ None
+  -- the segment and the taking lie in the input
+  pub started : scanned .segment .start ≤ scanned .segment .end
+  pub ended : scanned .segment .end ≤ length input
+  pub taken : scanned .taken .cursor .end ≤ scanned .taken .cursor .place
+  pub before : scanned .taken .cursor .end ≤ length input
+  pub inside : sameSymbol (scanned .taken .symbol) End ≡ false → scanned .taken .cursor .place ≤ length input
+  -- `&`, `=`, `[` or the end
+  pub follows : stops (RootKey true) (yielded (scanned .taken .symbol)) ≡ true
+  -- no count of levels outgrows the bytes taken
+  pub shallow : scanned .level ≤ scanned .taken .cursor .place
+  -- without a key at level 0 it is the root
+  pub rooted : scanned .key ≡ None → scanned .level ≡ 0 → scanned .here .node ≡ 0
 
--- The key's first byte is taken.
-abbrev pub InKey : List ℕ → Cursor → Type 0
-InKey input cursor = (cursor .start < cursor .place) × (cursor .place ≤ length input)
+-- The value behind a key: taken where the taking is a `=`, else NoValue.
+pub data ValueBehind (config : Config) (input : List ℕ) (behind : Taken) (found : PairValue) : Type 0 where
+  taken : behind .symbol ≡ Equals → found .start ≡ behind .cursor .place
+      → ValueIs config input (behind .cursor .place)
+      (record { leaf = found .leaf; end = found .end; place = found .place })
+      → ValueBehind config input behind found
+  absent : sameSymbol (behind .symbol) Equals ≡ false → found .leaf ≡ NoValue → found .place ≡ behind .cursor .place
+      → found .start ≡ behind .cursor .end → found .end ≡ behind .cursor .end
+      → ValueBehind config input behind found
 
--- After a level of brackets: a `[` opens the next one; or the pair is done.
-abbrev pub Further : Config → List ℕ → List ℕ → List ℕ → ℕ → Answer → Level → Type 0
-Further config input words text low answer (Deeper nested) =
-    Reads config input words text (nested .here) (nested .cursor .place) (still (opened input nested)) answer
-    × (low ≤ nested .cursor .place) × Inside input nested
-Further config input words text low answer (Turned turn) = Onward config input words text low answer turn
+-- After a pair: the next one starts, not before an index `low`; or the reading is refused.
+abbrev pub PairEnds : Config → List ℕ → Start → List ℕ → List ℕ → ℕ → Answer → Turn → Type 0
+PairEnds config input start words text low answer (Going index here) =
+    Reads config input start (moment words text here index) (still (λ path. rootKey [])) answer × (low ≤ index)
+PairEnds config input start words text low answer (Refused x index) =
+    (answer ≡ refusedAt x (placeAt start index)) × (index ≤ length input + 1)
 
--- A function reads the rest of a pair, whatever the answer is.
-pub record Turns
-    (config : Config) (input words text words′ text′ : List ℕ) (here : Here) (place : ℕ) (due : List Key → Step)
-    (low : ℕ) (turn : Turn)
+-- The moment when a key is scanned.
+abbrev pub scannedAt : List ℕ → List ℕ → ScannedKey → Moment
+scannedAt words text scanned = moment words text (scanned .here) (scanned .taken .cursor .place)
+
+-- After a level of brackets: the next key is scanned; or the pair is done.
+abbrev pub LevelEnds : Config → List ℕ → Start → List ℕ → List ℕ → ℕ → Answer → Level → Type 0
+LevelEnds config input start words text low answer (Deeper scanned) =
+    Reads config input start (scannedAt words text scanned) (due input scanned) answer
+    × (low < scanned .taken .cursor .place) × Behind input scanned
+LevelEnds config input start words text low answer (Turned turn) =
+    PairEnds config input start words text low answer turn
+
+-- A function reads the rest of a pair, whatever the start and the answer are.
+pub record ReadsPair
+    (config : Config) (input : List ℕ) (m : Moment) (words text : List ℕ) (due : List Key → Step) (low : ℕ)
+    (turn : Turn)
     : Type 0 where
-  pub turns :
-      (answer : Answer)
-      → Reads config input words text here place due answer → Onward config input words′ text′ low answer turn
+  pub pair :
+      (start : Start) (answer : Answer)
+      → Reads config input start m due answer → PairEnds config input start words text low answer turn
 
--- A function reads a level of brackets, or what is left of one.
-pub record Levels
-    (config : Config) (input words text words′ text′ : List ℕ) (here : Here) (place : ℕ) (due : List Key → Step)
-    (low : ℕ) (r : Level)
+-- A function reads on to the next key of a pair, or to its end.
+pub record ReadsLevel
+    (config : Config) (input : List ℕ) (m : Moment) (words text : List ℕ) (due : List Key → Step) (low : ℕ) (r : Level)
     : Type 0 where
-  pub levels :
-      (answer : Answer)
-      → Reads config input words text here place due answer → Further config input words′ text′ low answer r
+  pub level :
+      (start : Start) (answer : Answer)
+      → Reads config input start m due answer → LevelEnds config input start words text low answer r
+
+-- The moment in a bracket, and what it stands at: straight after a `[`, which is the cursor's last taking; or in a key,
+-- with the cursor's segment so far, which runs on to the place: below the depth, at the depth, and either.
+abbrev pub bracketAt : List ℕ → List ℕ → Bracket → Moment
+bracketAt words text at = moment words text (at .here) (at .cursor .place)
+
+abbrev pub opened : List ℕ → Bracket → List Key → Mode
+opened input at path = bracket path (at .level) (segment input (at .cursor .end) (at .cursor .place))
+
+abbrev pub inKeyBelow : List ℕ → Bracket → List Key → Mode
+inKeyBelow input at path = keyBelowDepth path (at .level) (segment input (at .cursor .start) (at .cursor .place))
+
+abbrev pub inKeyAt : List ℕ → Bracket → List Key → Mode
+inKeyAt input at path = keyAtDepth path (segment input (at .cursor .start) (at .cursor .place))
+
+abbrev pub inKey : Config → List ℕ → Bracket → List Key → Mode
+inKey config input at path =
+    cond (ltb (at .level) (config .depth)) (inKeyBelow input at path) (inKeyAt input at path)
+
+-- The last taking is inside the input, and there are no more levels than bytes taken.
+abbrev pub Inside : List ℕ → Bracket → Type 0
+Inside input at = (at .cursor .place ≤ length input) × (at .level ≤ at .cursor .place)
 
 -- The whole input is read: what is accepted stands in the words and the text.
-pub record Accepts (answer : Answer) (words text : List ℕ) (here : Here) : Type 0 where
+pub record AcceptedIn (answer : Answer) (words text : List ℕ) (here : Here) : Type 0 where
   pub tree : Node
   pub laid : List ℕ
   pub stores : Stores words text (here .records) (here .bytes) tree laid
   pub is : answer ≡ accepted tree (usedBy here laid)
 
-abbrev pub Ends : Answer → List ℕ → List ℕ → Turn → Type 0
-Ends answer words text (Going place here) = Accepts answer words text here
-Ends answer words text (Refused x place) = answer ≡ refusedAt x place
+-- What `parse_pairs` answers: a refusal's place is document 01's.
+abbrev pub PairsEnd : Answer → List ℕ → List ℕ → Turn → Type 0
+PairsEnd answer words text (Going place here) = AcceptedIn answer words text here
+PairsEnd answer words text (Refused x place) = answer ≡ refusedAt x place
 
 -- The root of the tree that stands there.
 abbrev pub rootOf : Here → Here
 rootOf here = record { records = here .records; bytes = here .bytes; node = 0 }
 
--- What is due after the taking that ended the scan for a root key, with the segment so far.
-abbrev pub rootStep : Config → List ℕ → List ℕ → Taken → List Key → Step
-rootStep config input key taken path =
-    stepBy config (rootKey key) (yielded (taken .symbol)) (segment input (taken .cursor .end) (taken .cursor .place))
-
--- The taking ended the scan for a root key.
-pub record Stopped (config : Config) (input : List ℕ) (taken : Taken) : Type 0 where
-  pub took : Took config input (taken .cursor .end) (yielded (taken .symbol)) (taken .cursor .place)
-  pub stop : stops (RootKey (not (eqb (config .depth) 0))) (yielded (taken .symbol)) ≡ true
+-- A root key is scanned from an index on, up to the taking that ends it.
+pub record RootScanned (config : Config) (input : List ℕ) (here : Here) (index : ℕ) (r : ScannedKey) : Type 0 where
+  pub root : r .here ≡ rootOf here
+  pub level : r .level ≡ 0
+  pub own : r .segment ≡ r .taken .cursor
+  pub start : r .segment .start ≡ index
+  pub scan : Scan (RootKey (not (eqb (config .depth) 0))) config input index (r .taken .cursor .end)
+      (yielded (r .taken .symbol)) (r .taken .cursor .place)
+  pub key : keyIn (r .key) (segment input (r .segment .start) (r .segment .end))
+      ≡ collected config (segment input (r .segment .start) (r .segment .end))

@@ -1,15 +1,15 @@
 -- The whole reading: from the loop over pairs to `reading`.
-use Prim.Native.Nat.{ℕ, _+_, _≤_, _<_}
+use Prim.Native.Nat.{ℕ, _+_, _*_, _≤_, _<_}
 use mathlib.Core.Path.{_≡_, refl, sym, ap, _∙_, subst}
 use mathlib.Core.Bool.{Bool, true, false}
-use mathlib.Core.List.{List, [], _∷_}
+use mathlib.Core.List.{List, [], _∷_, _++_}
 use native.Mathlib.Omega.{arith}
 use borrow.Author.Tests.{leb-true, leb-false, ltb-true, ltb-false}
 use lib.Dec.{leb, ltb}
-use lib.ListN.{length, replicate, length-replicate}
+use lib.ListN.{length, take, drop, replicate, length-drop}
 use Rattle.config.specs.declared.Config.{Config}
 use Rattle.config.specs.Limits.{maxDepth, maxLen}
-use Rattle.row.specs.Row.{recordWidth, noValueKind}
+use Rattle.row.specs.Row.{recordWidth, uninitializedKind, noValueKind}
 use Rattle.refusals.specs.declared.Refusal.{Refusal}
 use Rattle.refusals.specs.declared.Refusal.the-variants.{TooDeep, TooLong, NoRecord}
 use Rattle.reading.specs.Values.{uninitialized, noValue}
@@ -23,113 +23,123 @@ use Rattle.reading.proofs.Limits.{limits}
 use Rattle.cursor.specs.From.{from}
 use Rattle.cursor.proofs.From.{from-start}
 use Rattle.row.specs.Words.{recordCount}
-use Rattle.records.specs.Records.{withValue}
-use Rattle.records.specs.Adding.{childless}
-use Rattle.records.proofs.Valued.{length-withValue}
+use Rattle.records.specs.Records.{recordFields, withRecord}
+use Rattle.records.specs.Adding.{unkeyed, childless}
+use Rattle.records.proofs.Rows.{length-withWords}
 use Rattle.tree.specs.declared.Here.{Here}
-use Rattle.tree.specs.Stored.{Stores}
+use Rattle.tree.specs.Stored.{Stores, clearedFrom}
+use Rattle.tree.proofs.Lays.{full-le}
 use Rattle.tree.proofs.Paths.{root}
-use Rattle.tree.proofs.Standing.{same-lent}
-use Rattle.tree.proofs.Whole.{outcome-is, cleared, no-value}
-use Rattle.parse.specs.declared.Parsed.{Parsed}
+use Rattle.tree.proofs.StoredTrees.{same-lent}
+use Rattle.tree.proofs.Whole.{outcome-is, uninitialized-root, no-value-root}
 use Rattle.parse.specs.declared.Parsed.the-variants.{Accepted, Refused as RefusedHere}
 use Rattle.pairs.specs.declared.turning.Turn.{Turn}
 use Rattle.pairs.specs.declared.turning.Turn.the-variants.{Going, Refused}
 use Rattle.parse.specs.Outcomes.{outcomeOf}
-use Rattle.pairs.specs.Progress.{still, Reads, Ready}
-use Rattle.pairs.specs.Turns.{Ends}
+use Rattle.pairs.specs.Progress.{still, Start, moment, Reads, SomeReads}
+use Rattle.pairs.specs.Turns.{PairsEnd}
 
 abbrev start : Here
 start = record { records = 1; bytes = 0; node = 0 }
 
--- Cleared slices hold the Uninitialized root, with which the reading of an input starts.
-module _ (config : Config) {s W X : List ℕ} (small : length s ≤ maxLen) (some : recordWidth ≤ length W) (a : W ≡ replicate (length W) 0) (b : X ≡ replicate (length X) 0) where
-  start-reads : Reads config s W X start 0 (still (λ path. rootKey [])) (from config (lending (lentBy W X)) s 0 (rootKey []) (alone uninitialized) rootOnly)
+-- A reading of its own starts at place 0, and covers nothing yet.
+abbrev begin : Start
+begin = record { place = 0; cover = 0 }
+
+-- The words with a root written in record 0.
+abbrev rooted : ℕ → List ℕ → List ℕ
+rooted kind W = withRecord W 0 (unkeyed (childless kind)) 0
+
+length-rooted : (kind : ℕ) (W : List ℕ) → length (rooted kind W) ≡ length W
+length-rooted kind W = length-withWords W 0 (recordFields (unkeyed (childless kind)) 0)
+
+-- The reading of an input starts from the Uninitialized root, written into the words R.
+module _ (config : Config) (s W X : List ℕ) {R : List ℕ} (small : length s ≤ maxLen) (some : recordWidth ≤ length W) (a : R ≡ rooted uninitializedKind W) where
+  wide : length R ≡ length W
+  wide = ap length a ∙ length-rooted uninitializedKind W
+
+  start-reads : Reads config s begin (moment R X start 0)
+      (still (λ path. rootKey [])) (from config (lending (lentBy R X)) s 0 0 (rootKey []) (alone uninitialized) rootOnly)
   start-reads =
       record {
-        env = lending (lentBy W X);
+        env = lending (lentBy R X);
         path = [];
         tree = alone uninitialized;
         laid = [];
-        stands = record {
+        stored = record {
           lent-is = refl;
-          stores = subst (λ (x : List ℕ). Stores W x 1 0 (alone uninitialized) []) (sym b)
-              (subst (λ (w : List ℕ). Stores w (replicate (length X) 0) 1 0 (alone uninitialized) []) (sym a) (cleared (length W) (length X) some));
+          stores = subst (λ (w : List ℕ). Stores w X 1 0 (alone uninitialized) []) (sym a) (uninitialized-root W X some);
           leads = root (alone uninitialized);
         };
         onward = refl;
         covered = gives {a = alone uninitialized} {u = rootOnly} (record { records = omega arith; bytes = omega arith });
         records = omega arith;
         bytes = omega arith;
-        small = small;
+        small = omega (arith, small);
         within = omega arith;
       }
 
-  pub start-ready : Ready config s W X start 0 (still (λ path. rootKey []))
-  start-ready = record { answer = from config (lending (lentBy W X)) s 0 (rootKey []) (alone uninitialized) rootOnly; reads = start-reads }
+  pub start-ready : SomeReads config s (moment R X start 0) (still (λ path. rootKey []))
+  start-ready =
+      record { start = begin; answer = from config (lending (lentBy R X)) s 0 0 (rootKey []) (alone uninitialized) rootOnly; reads = start-reads }
+
+  -- The lengths are those that were lent.
+  as-lent : outcome (length R) (length X) (parsed config s (lentBy R X)) ≡ outcome (length W) (length X) (parsed config s (lentBy W X))
+  as-lent =
+      ap (λ (lent : Lent). outcome (length R) (length X) (parsed config s lent)) (sym (same-lent W X R X wide refl))
+      ∙ ap (λ (n : ℕ). outcome n (length X) (parsed config s (lentBy W X))) wide
 
   -- The answer to an input that isn't empty.
-  module _ (nonempty : 0 < length s) (W′ X′ : List ℕ) (w : length W′ ≡ length W) (x : length X′ ≡ length X) {turn : Turn}
-      (g : (answer : Answer) → Reads config s W X start 0 (still (λ path. rootKey [])) answer → Ends answer W′ X′ turn) where
-    ends : {turn′ : Turn} → turn ≡ turn′ → Ends (parsed config s (lentBy W X)) W′ X′ turn′
-    ends e = subst (λ (z : Turn). Ends (parsed config s (lentBy W X)) W′ X′ z) e
-        (subst (λ (z : Answer). Ends z W′ X′ turn) (sym (from-start config (lentBy W X) s nonempty))
-        (g (from config (lending (lentBy W X)) s 0 (rootKey []) (alone uninitialized) rootOnly) start-reads))
+  module _ (nonempty : 0 < length s) (W′ X′ : List ℕ) (w : length W′ ≡ length R) (x : length X′ ≡ length X) {turn : Turn}
+      (g : (o : Start) (answer : Answer) → o .place ≡ 0 → Reads config s o (moment R X start 0) (still (λ path. rootKey [])) answer
+      → PairsEnd answer W′ X′ turn) where
+    ends : {turn′ : Turn} → turn ≡ turn′ → PairsEnd (parsed config s (lentBy R X)) W′ X′ turn′
+    ends e = subst (λ (z : Turn). PairsEnd (parsed config s (lentBy R X)) W′ X′ z) e
+        (subst (λ (z : Answer). PairsEnd z W′ X′ turn) (sym (from-start config (lentBy R X) s 0 nonempty))
+        (g begin (from config (lending (lentBy R X)) s 0 0 (rootKey []) (alone uninitialized) rootOnly) refl start-reads))
 
-    pub some-accepted : {place : ℕ} {here : Here} → turn ≡ Going place here
-        → outcomeOf (Accepted (here .records) (here .bytes)) W′ X′ ≡ outcome (length W) (length X) (parsed config s (lentBy W X))
-    some-accepted e =
-        let y = ends e in
-        sym (ap (outcome (length W) (length X)) (y .is) ∙ rw (← w, ← x) (outcome-is (y .stores)))
+    module _ {place : ℕ} {here : Here} (e : turn ≡ Going place here) where
+      -- What is used lies in the words and in the text.
+      pub used-inside : (here .records ≤ recordCount W′) × (here .bytes ≤ length X′)
+      used-inside =
+          let y = ends e in
+          (y .stores .holds .room, omega (arith, full-le (y .laid) (y .stores .free) (y .stores .full), y .stores .fill))
+
+      pub some-accepted : {W″ X″ : List ℕ} → (W″ ≡ clearedFrom (here .records * recordWidth) W′) × (X″ ≡ clearedFrom (here .bytes) X′)
+          → outcomeOf (Accepted (here .records) (here .bytes)) W″ X″ ≡ outcome (length W) (length X) (parsed config s (lentBy W X))
+      some-accepted q =
+          let y = ends e in
+          rw (q .0, q .1) (sym (ap (outcome (length R) (length X)) (y .is) ∙ rw (← w, ← x) (outcome-is (y .stores)))) ∙ as-lent
 
     module _ {refusal : Refusal} {place : ℕ} (e : turn ≡ Refused refusal place) where
       -- A u32 holds the place.
       pub place-inside : place ≤ maxLen + 1
       place-inside =
           let inside : place ≤ length s + 1 =
-          subst (λ (z : Answer). (outcome 0 0 z) .answer .place ≤ length s + 1) (ends e) (read-placed config s (lentBy W X) 0 0) in
+          subst (λ (z : Answer). (outcome 0 0 z) .answer .place ≤ length s + 1) (ends e) (read-placed config s (lentBy R X) 0 0) in
           omega (arith, small)
 
       pub some-refused : {W″ X″ : List ℕ} → W″ ≡ replicate (length W′) 0 → X″ ≡ replicate (length X′) 0
           → outcomeOf (RefusedHere refusal place) W″ X″ ≡ outcome (length W) (length X) (parsed config s (lentBy W X))
-      some-refused p q = rw (p, q, w, x) (sym (ap (outcome (length W) (length X)) (ends e)))
+      some-refused p q = rw (p, q, w, x) (sym (ap (outcome (length R) (length X)) (ends e))) ∙ as-lent
 
--- The slices are cleared first.
-module _ (W X W′ X′ : List ℕ) (a : W′ ≡ replicate (length W) 0) (b : X′ ≡ replicate (length X) 0) where
-  pub cleared-words : length W′ ≡ length W
-  cleared-words = ap length a ∙ length-replicate (length W) 0
+-- "Empty ticket: NoValue root."
+pub empty-accepted : (W X : List ℕ) {R W″ X″ : List ℕ} → recordWidth ≤ length W → R ≡ rooted noValueKind W
+    → (W″ ≡ clearedFrom (1 * recordWidth) R) × (X″ ≡ clearedFrom 0 X)
+    → outcomeOf (Accepted 1 0) W″ X″ ≡ outcome (length W) (length X) (accepted (alone noValue) rootOnly)
+empty-accepted W X some a q =
+    rw (q .0, q .1)
+    (sym
+    (ap (λ (n : ℕ). outcome n (length X) (accepted (alone noValue) rootOnly)) (sym (ap length a ∙ length-rooted noValueKind W))
+    ∙ outcome-is (subst (λ (w : List ℕ). Stores w X 1 0 (alone noValue) []) (sym a) (no-value-root W X some))))
 
-  cleared-text : length X′ ≡ length X
-  cleared-text = ap length b ∙ length-replicate (length X) 0
+pub empty-read : (config : Config) (s : List ℕ) (lent : Lent) → length s ≡ 0 → accepted (alone noValue) rootOnly ≡ parsed config s lent
+empty-read config [] lent e = refl
+empty-read config (c ∷ s) lent e = absurd (omega arith)
 
-  pub words-zero : W′ ≡ replicate (length W′) 0
-  words-zero = a ∙ ap (λ (n : ℕ). replicate n 0) (sym cleared-words)
-
-  pub text-zero : X′ ≡ replicate (length X′) 0
-  text-zero = b ∙ ap (λ (n : ℕ). replicate n 0) (sym cleared-text)
-
-  -- The lengths are those that were lent.
-  pub as-lent : (config : Config) (s : List ℕ)
-      → outcome (length W′) (length X′) (parsed config s (lentBy W′ X′)) ≡ outcome (length W) (length X) (parsed config s (lentBy W X))
-  as-lent config s =
-      ap (λ (lent : Lent). outcome (length W′) (length X′) (parsed config s lent)) (sym (same-lent W X W′ X′ cleared-words cleared-text))
-      ∙ ap (λ (n : ℕ). outcome n (length X′) (parsed config s (lentBy W X))) cleared-words
-      ∙ ap (λ (n : ℕ). outcome (length W) n (parsed config s (lentBy W X))) cleared-text
-
-  -- "Empty ticket: NoValue root."
-  pub empty-accepted : (config : Config) (s : List ℕ) → length s ≡ 0 → recordWidth ≤ length W → {W″ : List ℕ} {r : Parsed}
-      → (W″ ≡ withValue W′ 0 (childless noValueKind)) × (r ≡ Accepted 1 0)
-      → outcomeOf r W″ X′ ≡ outcome (length W) (length X) (parsed config s (lentBy W X))
-  empty-accepted config (c ∷ s) e some q = absurd (omega arith)
-  empty-accepted config [] e some {W″} {r} q =
-      let long : length W″ ≡ length W = ap length (q .0) ∙ length-withValue W′ 0 (childless noValueKind) ∙ cleared-words in
-      let stores : Stores W″ X′ 1 0 (alone noValue) [] =
-      subst (λ (x : List ℕ). Stores W″ x 1 0 (alone noValue) []) (sym b)
-      (subst (λ (w : List ℕ). Stores w (replicate (length X) 0) 1 0 (alone noValue) [])
-      (sym (q .0 ∙ ap (λ (w : List ℕ). withValue w 0 (childless noValueKind)) a)) (no-value (length W) (length X) some)) in
-      ap (λ (z : Parsed). outcomeOf z W″ X′) (q .1)
-      ∙ sym (ap (λ (n : ℕ). outcome n (length X) (accepted (alone noValue) rootOnly)) (sym long) ∙ ap (λ (n : ℕ). outcome (length W″) n (accepted (alone noValue) rootOnly))
-      (sym cleared-text) ∙ outcome-is stores)
+-- A tail that is cleared.
+pub tail-cleared : (n : ℕ) (xs : List ℕ) {ys zs : List ℕ} → ys ≡ replicate (length (drop n xs)) 0 → zs ≡ take n xs ++ ys → zs ≡ clearedFrom n xs
+tail-cleared n xs e f = f ∙ ap (λ (l : List ℕ). take n xs ++ l) (e ∙ ap (λ (m : ℕ). replicate m 0) (length-drop n xs))
 
 -- Whether so many records are lent.
 module _ (W : List ℕ) {n : ℕ} {b : Bool} (e : b ≡ leb n (recordCount W)) where

@@ -5,14 +5,18 @@
 mod parser; // the parser that holds the input
 
 ghost use mathlib.Core.Path.{_≡_};
-ghost use Prim.Native.Nat.{_≤_, _<_};
-ghost use lib.ListN.{length, replicate};
+ghost use Prim.Native.Nat.{_*_, _≤_, _<_};
+ghost use lib.ListN.{length};
 ghost use Rattle.config.specs.Limits.{maxLen};
-ghost use Rattle.row.specs.Row.{recordWidth, noValueKind};
-ghost use Rattle.reading.specs.Reading.{lentBy, parsed, outcome, reading};
-ghost use Rattle.records.specs.Records.{withValue};
-ghost use Rattle.records.specs.Adding.{childless};
-ghost use Rattle.parse.specs.declared.Parsed.the-variants.{Accepted};
+ghost use Rattle.row.specs.Row.{recordWidth};
+ghost use Rattle.row.specs.Words.{recordCount};
+ghost use Rattle.reading.specs.Values.{noValue};
+ghost use Rattle.reading.specs.Charging.{rootOnly};
+ghost use Rattle.reading.specs.Running.{accepted};
+ghost use Rattle.reading.specs.Reading.{alone, lentBy, parsed, outcome, reading};
+ghost use Rattle.records.specs.Records.{withRecord};
+ghost use Rattle.records.specs.Adding.{unkeyed, childless};
+ghost use Rattle.tree.specs.Stored.{clearedFrom};
 ghost use Rattle.parse.specs.Outcomes.{answerOf, outcomeOf};
 use clearing::clear_text;
 use clearing::clear_words;
@@ -20,10 +24,14 @@ use config::Config;
 use pairs::Turn;
 use pairs::parse_pairs;
 pub use parser::Parser;
+pub use parser::parse_at;
 use reading::Reading;
 use records::store;
+use records::store::KeyWords;
+use records::store::Record;
 use records::store::ValueWords;
 use refusals::Refusal;
+use tree::Here;
 
 // The answer of a reading: accepted, with the records and the text bytes used; or the refusal and its place.
 pub enum Parsed {
@@ -53,16 +61,57 @@ impl Parsed {
     }
 }
 
-// Reads an input that isn't empty into cleared slices. A refusal leaves them cleared.
+// Writes record 0 whole, as a root of a kind, with no text and no child. Nothing else changes.
+fn write_root(words: &mut [u32], kind: u32)
+    requires { ⌜ recordWidth ≤ length (now words) ⌝ }
+    ensures { λ _. ⌜ now (words .exit) ≡ withRecord (now (words .entry)) 0 (unkeyed (childless kind)) 0 ⌝ }
+{
+    let root = Record {
+        key: KeyWords {
+            kind: row::NO_KEY,
+            offset: 0,
+            len: 0,
+        },
+        value: ValueWords {
+            kind,
+            offset: 0,
+            len: 0,
+        },
+    };
+    store::write_record(words, 0, root, 0);
+}
+
+// Clears what isn't used of the words and of the text: behind so many records, and behind so many bytes.
+fn clear_unused(words: &mut [u32], text: &mut [u8], records: u32, bytes: u32)
+    requires { ⌜ (records ≤ recordCount (now words)) × (bytes ≤ length (now text)) ⌝ }
+    ensures { λ _. ⌜ (now (words .exit) ≡ clearedFrom (records * recordWidth) (now (words .entry)))
+        × (now (text .exit) ≡ clearedFrom bytes (now (text .entry))) ⌝ }
+{
+    let free = records as usize * row::WIDTH;
+    let rest = bytes as usize;
+    clear_words(&mut words[free..]);
+    clear_text(&mut text[rest..]);
+}
+
+// Reads an input that isn't empty, from an Uninitialized root on. What isn't used is cleared at the end, which after a
+// refusal is all.
 fn parse_some(input: &[u8], config: Config, words: &mut [u32], text: &mut [u8]) -> Parsed
-    requires { ⌜ (0 < length (now input)) × (length (now input) ≤ maxLen) × (recordWidth ≤ length (now words))
-        × (now words ≡ replicate (length (now words)) 0) × (now text ≡ replicate (length (now text)) 0) ⌝ }
+    requires { ⌜ (0 < length (now input)) × (length (now input) ≤ maxLen) × (recordWidth ≤ length (now words)) ⌝ }
     ensures { λ r. ⌜ outcomeOf r (now (words .exit)) (now (text .exit))
         ≡ outcome (length (now (words .entry))) (length (now (text .entry)))
         (parsed config (now (input .entry)) (lentBy (now (words .entry)) (now (text .entry)))) ⌝ }
 {
-    match parse_pairs(input, config, words, text) {
-        Turn::Going(_, here) => Parsed::Accepted(here.records, here.bytes),
+    write_root(words, row::UNINITIALIZED);
+    let root = Here {
+        records: 1,
+        bytes: 0,
+        node: 0,
+    };
+    match parse_pairs(input, config, words, text, root, 0) {
+        Turn::Going(_, here) => {
+            clear_unused(words, text, here.records, here.bytes);
+            Parsed::Accepted(here.records, here.bytes)
+        }
         Turn::Refused(refusal, place) => {
             let at = place as u32;
             clear_words(words);
@@ -72,32 +121,26 @@ fn parse_some(input: &[u8], config: Config, words: &mut [u32], text: &mut [u8]) 
     }
 }
 
-// Reads an empty input into cleared slices: a NoValue root.
-fn parse_empty(words: &mut [u32]) -> Parsed
+// Reads an empty input: a NoValue root. The rest is cleared.
+fn parse_empty(words: &mut [u32], text: &mut [u8]) -> Parsed
     requires { ⌜ recordWidth ≤ length (now words) ⌝ }
-    ensures { λ r. ⌜ (now (words .exit) ≡ withValue (now (words .entry)) 0 (childless noValueKind))
-        × (r ≡ Accepted 1 0) ⌝ }
+    ensures { λ r. ⌜ outcomeOf r (now (words .exit)) (now (text .exit))
+        ≡ outcome (length (now (words .entry))) (length (now (text .entry))) (accepted (alone noValue) rootOnly) ⌝ }
 {
-    let no_value = ValueWords {
-        kind: row::NO_VALUE,
-        offset: 0,
-        len: 0,
-    };
-    store::set_value(words, 0, no_value);
+    write_root(words, row::NO_VALUE);
+    clear_unused(words, text, 1, 0);
     Parsed::Accepted(1, 0)
 }
 
-// Clears the slices, and reads the input into them.
-fn parse_cleared(input: &[u8], config: Config, words: &mut [u32], text: &mut [u8]) -> Parsed
+// Reads the input into slices that have room for a root.
+fn parse_lent(input: &[u8], config: Config, words: &mut [u32], text: &mut [u8]) -> Parsed
     requires { ⌜ (length (now input) ≤ maxLen) × (recordWidth ≤ length (now words)) ⌝ }
     ensures { λ r. ⌜ outcomeOf r (now (words .exit)) (now (text .exit))
         ≡ outcome (length (now (words .entry))) (length (now (text .entry)))
         (parsed config (now (input .entry)) (lentBy (now (words .entry)) (now (text .entry)))) ⌝ }
 {
-    clear_words(words);
-    clear_text(text);
     if input.len() == 0 {
-        return parse_empty(words);
+        return parse_empty(words, text);
     }
     parse_some(input, config, words, text)
 }
@@ -114,7 +157,7 @@ fn parse_input(input: &[u8], config: Config, words: &mut [u32], text: &mut [u8])
         return Parsed::Refused(Refusal::TooLong, 0);
     }
     if row::has_room(words, 1) {
-        return parse_cleared(input, config, words, text);
+        return parse_lent(input, config, words, text);
     }
     Parsed::Refused(Refusal::NoRecord, 0)
 }

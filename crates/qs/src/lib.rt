@@ -56,20 +56,20 @@ fn behavior(duplicates: u32) -> DuplicateKeyBehavior
     }
 }
 
-// Reads `input` into lent `records`, eight words each, and `text`, at a depth and with the form flag off (0) or on
+// Reads `input` into lent `words`, eight a record, and `text`, at a depth and with the form flag off (0) or on
 // (anything else). Refusals 1 to 3 leave both slices unchanged, the later ones leave them zero.
 #[no_mangle]
 pub extern "C" fn qs_parse(
     depth: u32,
     form: u32,
     input: &[u8],
-    records: &mut [u32],
+    words: &mut [u32],
     text: &mut [u8],
 ) -> Reading
-    ensures { λ r. ⌜ record { answer = r; words = now (records .exit); text = now (text .exit) }
-        ≡ reading (settings depth form) (now (input .entry)) (now (records .entry)) (now (text .entry)) ⌝ }
+    ensures { λ r. ⌜ record { answer = r; words = now (words .exit); text = now (text .exit) }
+        ≡ reading (settings depth form) (now (input .entry)) (now (words .entry)) (now (text .entry)) ⌝ }
 {
-    parse::parse(input, settings(depth, form), records, text).answer()
+    parse::parse(input, settings(depth, form), words, text).answer()
 }
 
 // Reads `input` as `qs_parse` does, and then the root's field of that name as a text: its offset and length in
@@ -81,16 +81,16 @@ pub extern "C" fn qs_text(
     duplicates: u32,
     input: &[u8],
     name: &[u8],
-    records: &mut [u32],
+    words: &mut [u32],
     text: &mut [u8],
 ) -> FieldRead
-    ensures { λ r. ⌜ record { answer = r; words = now (records .exit); text = now (text .exit) }
+    ensures { λ r. ⌜ record { answer = r; words = now (words .exit); text = now (text .exit) }
         ≡ textRead (settings depth form) (behavior duplicates) (now (input .entry)) (now (name .entry))
-        (now (records .entry)) (now (text .entry)) ⌝ }
+        (now (words .entry)) (now (text .entry)) ⌝ }
 {
     let config = settings(depth, form);
     let duplicates = behavior(duplicates);
-    de::deserialize_str(input, name, config, duplicates, records, text)
+    de::deserialize_str(input, name, config, duplicates, words, text)
 }
 
 // The same, of the field as a list: each element's offset and length are written to `list`, with zeros behind them.
@@ -102,18 +102,18 @@ pub extern "C" fn qs_list(
     duplicates: u32,
     input: &[u8],
     name: &[u8],
-    records: &mut [u32],
+    words: &mut [u32],
     text: &mut [u8],
     list: &mut [u32],
 ) -> FieldRead
     ensures { λ r. ⌜ record {
-      read = record { answer = r; words = now (records .exit); text = now (text .exit) };
+      read = record { answer = r; words = now (words .exit); text = now (text .exit) };
       list = now (list .exit);
     }
         ≡ listRead (settings depth form) (behavior duplicates) (now (input .entry)) (now (name .entry))
-        (now (records .entry)) (now (text .entry)) (now (list .entry)) ⌝ }
+        (now (words .entry)) (now (text .entry)) (now (list .entry)) ⌝ }
 {
     let config = settings(depth, form);
     let duplicates = behavior(duplicates);
-    de::deserialize_seq(input, name, config, duplicates, records, text, list)
+    de::deserialize_seq(input, name, config, duplicates, words, text, list)
 }

@@ -16,7 +16,7 @@ use Rattle.reading.specs.Adding.{mapAt, sequenceAt, keyText, leafText, l
 use Rattle.reading.specs.Scanning.{Command}
 use Rattle.reading.specs.Running.{perform}
 use Rattle.reading.specs.Trees.{plain, entries, elements}
-use Rattle.reading.specs.Counts.{values, entryValues, elementValues, keyLength, textBytes, entryBytes, elementBytes}
+use Rattle.reading.specs.Counts.{values, entryValues, elementValues, keyLen, textBytes, entryBytes, elementBytes}
 use Rattle.reading.specs.Numbers.{tally, below, count, countAll, covers, labelCovers, textsOver, textsOverAll}
 use Rattle.reading.specs.Laid.{Laid, LaidAll}
 use Rattle.reading.proofs.Results.{Each}
@@ -28,7 +28,8 @@ pub below-next : (i n : ℕ) → tally (eqb i n) + below i n ≡ below i (n + 1)
 below-next i n =
     go (eqb i n) (ltb i n) (ltb i (n + 1)) (eqb-true i n) (eqb-false i n) (ltb-true i n) (ltb-false i n) (ltb-true i (n + 1)) (ltb-false i (n + 1))
   where
-    go : (a b c : Bool) → (a ≡ true → i ≡ n) → (a ≡ false → i ≡ n → ⊥) → (b ≡ true → i < n) → (b ≡ false → n ≤ i) → (c ≡ true → i < n + 1) → (c ≡ false → n + 1 ≤ i)
+    go : (a b c : Bool) → (a ≡ true → i ≡ n) → (a ≡ false → i ≡ n → ⊥) → (b ≡ true → i < n) → (b ≡ false → n ≤ i) → (c ≡ true → i < n + 1)
+        → (c ≡ false → n + 1 ≤ i)
         → tally a + tally b ≡ tally c
     go true true c p q r s u w = absurd (omega (arith, p refl, r refl))
     go true false true p q r s u w = refl
@@ -81,7 +82,7 @@ adds-here m l v cs u w u′ q h =
     record {
       numbers = λ i. omega (arith, h .numbers i);
       sizes = omega (arith, h .sizes);
-      lengths = omega (arith, h .lengths, ap (λ k. keyLength (labelKey k)) q);
+      lengths = omega (arith, h .lengths, ap (λ k. keyLen (labelKey k)) q);
       covered = λ p. omega (arith, h .covered p, ap (labelCovers p) q);
       texts = λ z. rw q (
         rw (h .text) (laid-label-more (u .text) (h .more) (l .label) (z .0)),
@@ -187,7 +188,7 @@ key-covers (int a) o p = let e : o + 0 ≡ o = omega arith in omega (arith, ap (
 key-covers (str []) o p = let e : o + 0 ≡ o = omega arith in omega (arith, ap (below p) e, covers-nothing p 0)
 key-covers (str (b ∷ x)) o p = covers-next p o (length (b ∷ x)) (b ∷ x) refl
 
-key-bytes : (k : Key) (o : ℕ) → keyLength (labelKey (labelAt k o)) ≡ length (keyText k)
+key-bytes : (k : Key) (o : ℕ) → keyLen (labelKey (labelAt k o)) ≡ length (keyText k)
 key-bytes (int a) o = refl
 key-bytes (str []) o = refl
 key-bytes (str (b ∷ x)) o = refl

@@ -10,13 +10,15 @@ use Rattle.key.specs.KeyOrder.{compareKeys}
 use Rattle.reading.specs.Values.{unkeyed, Row, rowKey, bare, Value, uninitialized, Forest, none, child, Node, at}
 use Rattle.reading.specs.Leaves.{Leaf}
 use Rattle.reading.specs.Charging.{Lent, Environment, Used, more, FitsIn, NodeRule}
-use Rattle.reading.specs.Adding.{mapAt, sequenceAt, becomeMap, becomeSequence, keyText, leafText, rowAt, valueAt, snoc, appendValue, insertUnique, enterKey, pushLast, atPath}
+use Rattle.reading.specs.Adding.{mapAt, sequenceAt, becomeMap, becomeSequence, keyText, leafText, rowAt, valueAt}
+use Rattle.reading.specs.Adding.{snoc, appendValue, insertUnique, enterKey, pushLast, atPath}
 use Rattle.reading.specs.Scanning.{root, under, last, Command, skip, refuse, enter, needMap, needSequence, add}
 use Rattle.reading.specs.Running.{perform}
 use Rattle.reading.specs.Shape.{SingleValue}
 use Rattle.reading.specs.Covering.{gives, refuses}
 use Rattle.reading.proofs.Results.{Each, gives-over, gives-weaken, each-charge}
-use Rattle.reading.proofs.Rules.{Fits, OfValue, OfChildren, Obeys, Passes, Adding, Entering, at-path, append-obeys, insert-obeys, push-obeys, enter-obeys, map-obeys, sequence-obeys}
+use Rattle.reading.proofs.Rules.{Fits, OfValue, OfChildren, Obeys, Passes, Adding, Entering, at-path}
+use Rattle.reading.proofs.Rules.{append-obeys, insert-obeys, push-obeys, enter-obeys, map-obeys, sequence-obeys}
 
 abbrev pub Change : Type 0 → Type 1
 Change A = A → Used → A → Used → Type 0
@@ -156,15 +158,18 @@ module _ (env : Environment) (R : Used → Used → Type 0) (same : (u : Used) �
 
 -- No command uses more than what is lent.
 pub perform-within : (env : Environment) (c : Command) (n : Node) (u : Used) → FitsIn (env .lent) u → Each (λ n′ u′. FitsIn (env .lent) u′) (perform env c n u)
-perform-within env c n u h = gives-weaken (λ n′ u′ f. f h) (perform-uses env (λ w w′. FitsIn (env .lent) w → FitsIn (env .lent) w′) (λ w g. g) (λ w k x f g. f) c n u)
+perform-within env c n u h =
+    gives-weaken (λ n′ u′ f. f h) (perform-uses env (λ w w′. FitsIn (env .lent) w → FitsIn (env .lent) w′) (λ w g. g) (λ w k x f g. f) c n u)
 
 -- No command gives back what is used: what doesn't fit in some lent space doesn't after it.
-pub perform-unfit : (env : Environment) (lent : Lent) (c : Command) (n : Node) (u : Used) → (FitsIn lent u → ⊥) → Each (λ n′ u′. FitsIn lent u′ → ⊥) (perform env c n u)
+pub perform-unfit : (env : Environment) (lent : Lent) (c : Command) (n : Node) (u : Used) → (FitsIn lent u → ⊥)
+    → Each (λ n′ u′. FitsIn lent u′ → ⊥) (perform env c n u)
 perform-unfit env lent c n u h =
     gives-weaken (λ n′ u′ f g. h (f g))
     (perform-uses env (λ w w′. FitsIn lent w′ → FitsIn lent w) (λ w g. g)
     (λ w k x f g. record { records = omega (arith, g .records); bytes = omega (arith, g .bytes, length-append (w .text) x) }) c n u)
 
 -- No command gives the root a key.
-pub perform-bare : (env : Environment) (c : Command) (n : Node) (u : Used) → n .row .label ≡ unkeyed → Each (λ n′ u′. n′ .row .label ≡ unkeyed) (perform env c n u)
+pub perform-bare : (env : Environment) (c : Command) (n : Node) (u : Used) → n .row .label ≡ unkeyed
+    → Each (λ n′ u′. n′ .row .label ≡ unkeyed) (perform env c n u)
 perform-bare env c n u h = gives-weaken (λ n′ u′ f. f .label ∙ h) (perform-kept (uses env (λ w w′. Unit) (λ w. tt) (λ w k x f. tt)) c n u)

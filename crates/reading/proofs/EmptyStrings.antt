@@ -15,7 +15,9 @@ use Rattle.reading.specs.Leaves.{Leaf, valueOf}
 use Rattle.reading.specs.Charging.{Environment, Used, Made}
 use Rattle.reading.specs.Adding.{mapAt, sequenceAt, becomeMap, becomeSequence, keyText, leafText, valueAt, snoc, insertUnique, enterKey, pushLast}
 use Rattle.reading.specs.Taking.{Symbol, ampersand, equals, opening, closing, other, Token}
-use Rattle.reading.specs.Scanning.{root, under, last, Command, skip, refuse, enter, needMap, needSequence, add, Mode, rootKey, value, bracket, keyBelowDepth, keyAtDepth, afterKey, afterBrackets, _then_, finish, step}
+use Rattle.reading.specs.Scanning.{root, under, last, Command, skip, refuse, enter, needMap, needSequence, add}
+use Rattle.reading.specs.Scanning.{Mode, rootKey, value, bracket, keyBelowDepth, keyAtDepth, afterKey}
+use Rattle.reading.specs.Scanning.{afterBrackets, _then_, finish, step}
 use Rattle.reading.specs.Running.{perform, run}
 use Rattle.reading.specs.Numbers.{NotEmpty, NoEmptyString, NoEmptyStringAmong}
 use Rattle.reading.specs.Covering.{gives, refuses}
@@ -89,7 +91,8 @@ AddsNoEmptyString (needMap path) = Unit
 AddsNoEmptyString (needSequence path) = Unit
 AddsNoEmptyString (add target leaf) = NotEmptyLeaf leaf
 
-perform-no-empty : (env : Environment) (c : Command) (n : Node) (u : Used) → AddsNoEmptyString c → NoEmptyString (n .value) → Each (λ w u′. NoEmptyString (w .value)) (perform env c n u)
+perform-no-empty : (env : Environment) (c : Command) (n : Node) (u : Used) → AddsNoEmptyString c → NoEmptyString (n .value)
+    → Each (λ w u′. NoEmptyString (w .value)) (perform env c n u)
 perform-no-empty env skip n u y h = gives h
 perform-no-empty env (refuse x) n u y h = refuses tt
 perform-no-empty env (enter path key) n u y h =
@@ -126,7 +129,8 @@ finish-adds-no-empty config (keyAtDepth path s) = tt
 finish-adds-no-empty config (afterKey path level key) = tt
 finish-adds-no-empty config (afterBrackets path) = tt
 
-open-adds-no-empty : (b : Bool) (s : List ℕ) (c : Command) (m : Mode) → AddsNoEmptyString c → AddsNoEmptyString ((cond b (skip then rootKey s) (c then m)) .command)
+open-adds-no-empty : (b : Bool) (s : List ℕ) (c : Command) (m : Mode) → AddsNoEmptyString c
+    → AddsNoEmptyString ((cond b (skip then rootKey s) (c then m)) .command)
 open-adds-no-empty true s c m h = tt
 open-adds-no-empty false s c m h = h
 

@@ -51,7 +51,8 @@ module _ (config : Config) (env large : Environment) (big : More (env .lent) (la
       (run-keeps config large (λ w v. FitsIn (env .lent) v → ⊥) (perform-unfit large (env .lent)) ts q m′)
       (perform-spared env large big ((step config m y (b ∷ s)) .command) n u)
 
-parsed-spared : (config : Config) (input : List ℕ) (lent large : Lent) → More lent large → SparedAnswer lent (parsed config input lent) (parsed config input large)
+parsed-spared : (config : Config) (input : List ℕ) (lent large : Lent) → More lent large
+    → SparedAnswer lent (parsed config input lent) (parsed config input large)
 parsed-spared config [] lent large big = alike
 parsed-spared config (b ∷ s) lent large big =
     run-spared config (lending lent) (lending large) big (tokens config (b ∷ s)) 0 (rootKey []) (alone uninitialized) rootOnly

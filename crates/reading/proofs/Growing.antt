@@ -9,7 +9,8 @@ use Rattle.reading.specs.Adding.{snoc}
 use Rattle.reading.specs.Scanning.{Command}
 use Rattle.reading.specs.Running.{perform}
 use Rattle.reading.specs.Trees.{Tree, Entries, entry, plain, entries, elements}
-use Rattle.reading.specs.Keeping.{Single, StartsWith, sameFirst, Keeps, bothSequences, bothMaps, KeepsEach, noKeys, alsoKey, KeepsTree, undecidedRoot, rootKept}
+use Rattle.reading.specs.Keeping.{Single, StartsWith, sameFirst, Keeps, bothSequences, bothMaps, KeepsEach}
+use Rattle.reading.specs.Keeping.{noKeys, alsoKey, KeepsTree, undecidedRoot, rootKept}
 use Rattle.reading.specs.Keeping
 use Rattle.reading.specs.Shape.{SingleValue, isNull, isNoValue, isString, Decided, DecidedAll, DecidedBelow}
 use Rattle.reading.proofs.Results.{All}

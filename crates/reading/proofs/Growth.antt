@@ -38,7 +38,8 @@ run-grows : (config : Config) (env : Environment) (ts : List Token) (p : ℕ) (m
 run-grows config env ts p m v u =
     run-ends config env (λ ts′ q m′ w u′. Grown (v .value) (w .value) × (p ≤ q)) (λ w u′. Grown (v .value) (w .value)) (λ x q. p < q)
     (λ y b s ts′ q m′ w u′ h.
-    gives-map (λ w′ u″ g. (grown-trans (h .0) g, omega (arith, h .1))) (λ x r. omega (arith, h .1)) (perform-grows env ((step config m′ y (b ∷ s)) .command) w u′))
+    gives-map (λ w′ u″ g. (grown-trans (h .0) g, omega (arith, h .1))) (λ x r. omega (arith, h .1))
+    (perform-grows env ((step config m′ y (b ∷ s)) .command) w u′))
     (λ q m′ w u′ h. gives-map (λ w′ u″ g. grown-trans (h .0) g) (λ x r. omega (arith, h .1)) (perform-grows env (finish config m′) w u′))
     ts p m v u (grown-refl (v .value), omega arith)
 
@@ -70,7 +71,8 @@ module _ (config : Config) (env large : Environment) (big : More (env .lent) (la
   finish-grows : (us : List Token) (p : ℕ) (m : Mode) (v : Node) (u : Used)
       → Grows (p + 1) (run config env [] p m v u) (resume (p + 1) (perform large (finish config m) v u) (run config large us (p + 1) (rootKey [])))
   finish-grows us p m v u =
-      resume-grows (p + 1) (p + 1) accepted (run config large us (p + 1) (rootKey [])) (λ w u′. ends-grows (run-grows config large us (p + 1) (rootKey []) w u′))
+      resume-grows (p + 1) (p + 1) accepted (run config large us (p + 1) (rootKey []))
+      (λ w u′. ends-grows (run-grows config large us (p + 1) (rootKey []) w u′))
       (perform-spared env large big (finish config m) v u)
 
   -- `&` acts as the end in every mode but the two inside an open bracket.
@@ -148,7 +150,8 @@ growth config (b ∷ s) B w w′ x x′ h k p q =
     let A = b ∷ s in
     let first = parsed config A (lentBy w x) in
     let second = parsed config (A ++ (byte.ampersand ∷ B)) (lentBy w′ x′) in
-    gates (length A) (ltb maxDepth (config .depth)) (ltb maxLen (length A)) (ltb maxLen (length (A ++ (byte.ampersand ∷ B)))) (ltb (length w) recordWidth) (ltb (length w′) recordWidth)
+    gates (length A) (ltb maxDepth (config .depth)) (ltb maxLen (length A)) (ltb maxLen (length (A ++ (byte.ampersand ∷ B)))) (ltb (length w) recordWidth)
+    (ltb (length w′) recordWidth)
     w x w′ x′ (readOf (length w) (length x) first) (readOf (length w′) (length x′) second)
     (λ e. omega (arith, ltb-true maxLen (length A) e, length-append A (byte.ampersand ∷ B)))
     (λ e. omega (arith, ltb-true maxLen (length (A ++ (byte.ampersand ∷ B))) e))

@@ -34,7 +34,8 @@ module _ (config : Config) (env : Environment) (us : List Token) where
   at-end p (bracket path level opened) n u e = absurd (let z : _≡_ {A = ℕ} 0 1 = cc in omega arith)
   at-end p (keyBelowDepth path level s) n u e = absurd (let z : _≡_ {A = ℕ} 0 1 = cc in omega arith)
   at-end p (keyAtDepth path s) n u e = resumed (p + 1) (run config env us (p + 1) (rootKey [])) (perform env (finish config (keyAtDepth path s)) n u) e
-  at-end p (afterKey path level key) n u e = resumed (p + 1) (run config env us (p + 1) (rootKey [])) (perform env (finish config (afterKey path level key)) n u) e
+  at-end p (afterKey path level key) n u e =
+      resumed (p + 1) (run config env us (p + 1) (rootKey [])) (perform env (finish config (afterKey path level key)) n u) e
   at-end p (afterBrackets path) n u e = resumed (p + 1) (run config env us (p + 1) (rootKey [])) (perform env (finish config (afterBrackets path)) n u) e
 
   -- The place past the end of the first is where the second starts.
@@ -44,7 +45,8 @@ module _ (config : Config) (env : Environment) (us : List Token) where
   joined (token y b s ∷ ts) p m n u e =
       let q = p + length (b ∷ s) in
       let m′ = (step config m y (b ∷ s)) .next in
-      resumed-on q (run config env ts q m′) (run config env (ts ++ (token ampersand byte.ampersand [] ∷ us)) q m′) (perform env ((step config m y (b ∷ s)) .command) n u)
+      resumed-on q (run config env ts q m′) (run config env (ts ++ (token ampersand byte.ampersand [] ∷ us)) q m′)
+      (perform env ((step config m y (b ∷ s)) .command) n u)
       (λ w v f. joined ts q m′ w v f) e
 
 pub joining : Joining

@@ -49,4 +49,5 @@ key-laid (str (b ∷ x)) t = lies-end t (b ∷ x)
 -- A text that lies at an offset is the part of its length there.
 pub lies-part : {t : List ℕ} {o : ℕ} {x : List ℕ} → Lies t o x → textPart t o (length x) ≡ x
 lies-part {t} {o} {x} h =
-    ap (λ (r : List ℕ). take (length x) (drop o r)) (h .whole) ∙ ap (take (length x)) (drop-at (h .front) (x ++ h .back) o (h .at)) ∙ take-at x (h .back) (length x) refl
+    ap (λ (r : List ℕ). take (length x) (drop o r)) (h .whole) ∙ ap (take (length x)) (drop-at (h .front) (x ++ h .back) o (h .at))
+    ∙ take-at x (h .back) (length x) refl

@@ -9,11 +9,13 @@ use lib.Dec.{eqb, ltb}
 use lib.ListN.{length, getD, replicate, length-append, List·getD-append}
 use lib.Seq.{getD-append-add}
 use Rattle.laws.proofs.Cases.{by-test}
-use Rattle.row.specs.Row.{recordWidth, kindWord, keyKindWord, keyWord, keyLengthWord, textWord, textLengthWord, childWord, nextWord}
+use Rattle.row.specs.Row.{recordWidth, kindWord, keyKindWord, keyWord, keyLenWord, textWord, textLenWord, childWord, nextWord}
 use Rattle.row.specs.Words.{word}
-use Rattle.reading.specs.Values.{Label, unkeyed, intKey, stringKey, Row, Value, uninitialized, null, noValue, string, map, sequence, Forest, none, child, Node}
+use Rattle.reading.specs.Values.{Label, unkeyed, intKey, stringKey, Row, Value, uninitialized, null, noValue}
+use Rattle.reading.specs.Values.{string, map, sequence, Forest, none, child, Node}
 use Rattle.reading.specs.Charging.{Used}
-use Rattle.reading.specs.Records.{kind, keyKind, keyOffset, keyLength, textOffset, textLength, first, firstChild, recordWords, recordBelow, recordAmong, recordsFrom, rooted, layout}
+use Rattle.reading.specs.Records.{kind, keyKind, keyOffset, keyLen, textOffset, textLen, first, firstChild}
+use Rattle.reading.specs.Records.{recordWords, recordBelow, recordAmong, recordsFrom, rooted, layout}
 use Rattle.reading.specs.Trees.{plain, entries, elements}
 use Rattle.reading.specs.Buffers.{labelIn, rowIn, valueWithin, forestWithin, nodeIn}
 use Rattle.reading.specs.Counts.{values, entryValues, elementValues}
@@ -28,9 +30,9 @@ pub record Recorded (w : List ℕ) (m : ℕ) (l : Row) (v : Value) (ds : Forest)
   pub kind-is : word w m kindWord ≡ kind v
   pub key-kind : word w m keyKindWord ≡ keyKind (l .label)
   pub key-is : word w m keyWord ≡ keyOffset (l .label)
-  pub key-length : word w m keyLengthWord ≡ keyLength (l .label)
+  pub key-length : word w m keyLenWord ≡ keyLen (l .label)
   pub text-is : word w m textWord ≡ textOffset v
-  pub text-length : word w m textLengthWord ≡ textLength v
+  pub text-length : word w m textLenWord ≡ textLen v
   pub child-is : word w m childWord ≡ firstChild v
   pub next-is : word w m nextWord ≡ first ds
 
@@ -41,9 +43,9 @@ recorded w m l v ds h =
       kind-is = h kindWord (omega arith);
       key-kind = h keyKindWord (omega arith);
       key-is = h keyWord (omega arith);
-      key-length = h keyLengthWord (omega arith);
+      key-length = h keyLenWord (omega arith);
       text-is = h textWord (omega arith);
-      text-length = h textLengthWord (omega arith);
+      text-length = h textLenWord (omega arith);
       child-is = h childWord (omega arith);
       next-is = h nextWord (omega arith);
     }
@@ -68,7 +70,7 @@ keyed-back : (w t : List ℕ) (m : ℕ) (l : Row) (v : Value) (ds : Forest) → 
 keyed-back w t m l v ds r h k = ap (λ (x : Label). record { label = x }) (go (l .label) (r .key-kind) (r .key-is) (r .key-length) h k)
   where
     go : (x : Label) → word w m keyKindWord ≡ keyKind x → word w m keyWord ≡ keyOffset x
-        → word w m keyLengthWord ≡ keyLength x → LaidLabel t x → Keyed x → labelIn true w t m ≡ x
+        → word w m keyLenWord ≡ keyLen x → LaidLabel t x → Keyed x → labelIn true w t m ≡ x
     go unkeyed a b c h k = absurd k
     go (intKey i) a b c h k = rw (a, b)
     go (stringKey o x) a b c h k = rw (a, b, c) (ap (stringKey o) (lies-part h))
@@ -161,7 +163,8 @@ mutual
   among-length : (cs : Forest) (i : ℕ) (d : List ℕ) → length d ≡ recordWidth → length (recordAmong i cs d) ≡ recordWidth
   among-length none i d h = h
   among-length (child m l v cs) i d h =
-      by-test (λ (r : List ℕ). length r ≡ recordWidth) (eqb i m) (λ e. record-length l v cs) (λ e. below-length v i (recordAmong i cs d) (among-length cs i d h))
+      by-test (λ (r : List ℕ). length r ≡ recordWidth) (eqb i m) (λ e. record-length l v cs)
+      (λ e. below-length v i (recordAmong i cs d) (among-length cs i d h))
 
 -- The default of a search, and its length.
 abbrev blank : List ℕ

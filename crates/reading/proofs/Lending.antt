@@ -15,7 +15,9 @@ use Rattle.refusals.specs.declared.Refusal.{Refusal}
 use Rattle.refusals.specs.declared.Refusal.the-variants.{TooFewRecords, TooLittleText}
 use Rattle.key.specs.KeyOrder.{compareKeys, choose}
 use Rattle.reading.specs.Charging.{Lent, Environment, Used, more, FitsIn, Made, made, refused, Rule, NodeRule, over, bind, charge}
-use Rattle.reading.specs.Adding.{mapAt, sequenceAt, expectMap, expectSequence, keyText, leafText, valueAt, insertNew, enterNew, sequenceOfTwo, snoc, push, appendValue, appendEmptyKey, atEntry, inMap, insertUnique, unchanged, enterKey, pushLast, noPath, atPath}
+use Rattle.reading.specs.Adding.{mapAt, sequenceAt, expectMap, expectSequence, keyText, leafText, valueAt}
+use Rattle.reading.specs.Adding.{insertNew, enterNew, sequenceOfTwo, snoc, push, appendValue, appendEmptyKey}
+use Rattle.reading.specs.Adding.{atEntry, inMap, insertUnique, unchanged, enterKey, pushLast, noPath, atPath}
 use Rattle.reading.specs.Scanning.{root, under, last, Command, skip, refuse, enter, needMap, needSequence, add}
 use Rattle.reading.specs.Running.{perform}
 use Rattle.reading.proofs.Results.{Each, gives-over, each-charge}
@@ -39,7 +41,8 @@ spared-over : {A B : Type 0} {lent : Lent} (f : A → B) {r s : Made A} → Spar
 spared-over f alike = alike
 spared-over f (scarce x h) = scarce x (gives-over f (λ a u g. g) h)
 
-spared-bind : {A B : Type 0} {lent : Lent} (f g : A → Used → Made B) → ((a : A) (u : Used) → Spared lent (f a u) (g a u)) → (r : Made A) → Spared lent (bind r f) (bind r g)
+spared-bind : {A B : Type 0} {lent : Lent} (f g : A → Used → Made B) → ((a : A) (u : Used) → Spared lent (f a u) (g a u)) → (r : Made A)
+    → Spared lent (bind r f) (bind r g)
 spared-bind f g h (made a u) = h a u
 spared-bind f g h (refused x) = alike
 
@@ -105,7 +108,8 @@ module _ (env large : Environment) (big : More (env .lent) (large .lent)) where
   abbrev Spares : NodeRule → NodeRule → Type 0
   Spares f g = (l : Row) (v : Value) (u : Used) → Spared (env .lent) (f l v u) (g l v u)
 
-  at-entry-spared : (k : Key) (old old′ : NodeRule) (new new′ : Rule Forest) → Spares old old′ → ((cs : Forest) (u : Used) → Spared (env .lent) (new cs u) (new′ cs u))
+  at-entry-spared : (k : Key) (old old′ : NodeRule) (new new′ : Rule Forest) → Spares old old′
+      → ((cs : Forest) (u : Used) → Spared (env .lent) (new cs u) (new′ cs u))
       → (cs : Forest) (u : Used) → Spared (env .lent) (atEntry k old new cs u) (atEntry k old′ new′ cs u)
   at-entry-spared k old old′ new new′ f g none u = g none u
   at-entry-spared k old old′ new new′ f g (child m l v cs) u =
@@ -123,7 +127,8 @@ module _ (env large : Environment) (big : More (env .lent) (large .lent)) where
       spared-over (mapAt l) (at-entry-spared k (atPath ks f) (atPath ks g) noPath noPath (at-path-spared ks f g h) (λ ds w. alike) cs u)
 
   -- A rule at an entry of the map that is needed here.
-  map-spared : (k : Key) (old old′ : NodeRule) (new new′ : Rule Forest) → Spares old old′ → ((cs : Forest) (u : Used) → Spared (env .lent) (new cs u) (new′ cs u))
+  map-spared : (k : Key) (old old′ : NodeRule) (new new′ : Rule Forest) → Spares old old′
+      → ((cs : Forest) (u : Used) → Spared (env .lent) (new cs u) (new′ cs u))
       → Spares (inMap k old new) (inMap k old′ new′)
   map-spared k old old′ new new′ f g l v u =
       spared-bind (λ cs w. over (mapAt l) (atEntry k old new cs w)) (λ cs w. over (mapAt l) (atEntry k old′ new′ cs w))

@@ -21,6 +21,7 @@ limits =
           (λ g k l. refl) (λ g k l. absurd (omega arith));
       within = λ config input words text d s h.
           let a = parsed config input (lentBy words text) in
-          read-cases (λ r. outcomeOf r ≡ outcome (length words) (length text) a) config input words text (λ g. absurd (omega arith)) (λ g k. absurd (omega arith))
+          read-cases (λ r. outcomeOf r ≡ outcome (length words) (length text) a) config input words text (λ g. absurd (omega arith))
+          (λ g k. absurd (omega arith))
           (λ g k l. absurd (omega arith)) (λ g k l. read-outcome (length words) (length text) a);
     }

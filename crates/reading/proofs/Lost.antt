@@ -16,7 +16,9 @@ use Rattle.key.specs.KeyOrder.{compareBytes, compareKeys}
 use Rattle.key.proofs.KeyOrders.{keys-same}
 use Rattle.reading.specs.Trees.{Tree, uninitialized, null, noValue, string, map, sequence, Entries, noEntries, entry, Elements, noElements, element}
 use Rattle.reading.specs.Reading.{read}
-use Rattle.reading.specs.Keeping.{isString, isNull, isNoValue, StartsWith, noMore, sameFirst, Has, here, further, Keeps, equal, firstElement, bothSequences, bothMaps, KeepsEach, noKeys, alsoKey, KeepsTree, undecidedRoot, rootKept}
+use Rattle.reading.specs.Keeping.{isString, isNull, isNoValue, StartsWith, noMore, sameFirst, Has, here, further}
+use Rattle.reading.specs.Keeping.{Keeps, equal, firstElement, bothSequences, bothMaps, KeepsEach, noKeys, alsoKey}
+use Rattle.reading.specs.Keeping.{KeepsTree, undecidedRoot, rootKept}
 use Rattle.reading.specs.Lost.{readOf, treeOf, lost, EachLost, LostAll}
 
 -- Kind and bytes of a tree, by which the test tells two apart. It doesn't look into what is no single value.
@@ -154,7 +156,8 @@ each-lost : (inputs : List (String × String)) → testsPass inputs ≡ true →
 each-lost [] e = tt
 each-lost ((w, v) ∷ more) e =
     let first = both (testOf w v) (testsPass more) e in
-    let read = both (eqb ((readOf w) .answer .number) 0) (cond (eqb ((readOf v) .answer .number) 0) (not (mayKeepTree (treeOf v) (treeOf w))) false) (first .0) in
+    let read =
+    both (eqb ((readOf w) .answer .number) 0) (cond (eqb ((readOf v) .answer .number) 0) (not (mayKeepTree (treeOf v) (treeOf w))) false) (first .0) in
     let too = both (eqb ((readOf v) .answer .number) 0) (not (mayKeepTree (treeOf v) (treeOf w))) (read .1) in (
       record {
         accepted = eqb-true ((readOf w) .answer .number) 0 (read .0);

@@ -44,7 +44,8 @@ pub read-cases : (Q : Read → Type 0) (config : Config) (input words text : Lis
     → (maxDepth < config .depth → Q (met (unread TooDeep words text)))
     → (config .depth ≤ maxDepth → maxLen < length input → Q (met (unread TooLong words text)))
     → (config .depth ≤ maxDepth → length input ≤ maxLen → length words < recordWidth → Q (met (unread NoRecord words text)))
-    → (config .depth ≤ maxDepth → length input ≤ maxLen → recordWidth ≤ length words → Q (readOf (length words) (length text) (parsed config input (lentBy words text))))
+    → (config .depth ≤ maxDepth → length input ≤ maxLen → recordWidth ≤ length words
+    → Q (readOf (length words) (length text) (parsed config input (lentBy words text))))
     → Q (read config input words text)
 unfolding read
 read-cases Q config input words text deep long few done =
@@ -148,7 +149,8 @@ module _ (words text : List ℕ) (n : Node) (u : Used) (s : Sound (lentBy words 
         );
       }
 
-refused-answered : (words text : List ℕ) (x : Refusal) (p : ℕ) → 4 ≤ code x → code x ≤ 15 → Answered words text (outcome (length words) (length text) (refusedAt x p))
+refused-answered : (words text : List ℕ) (x : Refusal) (p : ℕ) → 4 ≤ code x → code x ≤ 15
+    → Answered words text (outcome (length words) (length text) (refusedAt x p))
 refused-answered words text x p h k =
     record {
       numbered = k;
@@ -174,7 +176,8 @@ unread-answered words text x h k =
       lengths = (refl, refl);
     }
 
-outcome-answered : (words text : List ℕ) {a : Answer} → Ends (Sound (lentBy words text)) (λ x p. Numbered x) a → Answered words text (outcome (length words) (length text) a)
+outcome-answered : (words text : List ℕ) {a : Answer} → Ends (Sound (lentBy words text)) (λ x p. Numbered x) a
+    → Answered words text (outcome (length words) (length text) a)
 outcome-answered words text (Ends.accepts {v = n} {u = u} s) = accepted-answered words text n u s
 outcome-answered words text (refusesAt {x = x} {p = p} h) = refused-answered words text x p (numbered x h .0) (numbered x h .1)
 

@@ -15,9 +15,13 @@ use Rattle.refusals.specs.declared.Refusal.the-variants.{NoSuchField}
 use Rattle.refusals.specs.Codes.{code}
 use Rattle.key.specs.KeyOrder.{compareKeys, choose}
 use Rattle.reading.specs.Charging.{Environment, Used, Made, made, refused, NodeRule, over}
-use Rattle.reading.specs.Adding.{mapAt, sequenceAt, becomeMap, becomeSequence, keyText, leafText, valueAt, enterNew, snoc, atEntry, insertUnique, unchanged, enterKey, pushLast, noPath, atPath}
+use Rattle.reading.specs.Adding.{mapAt, sequenceAt, becomeMap, becomeSequence, keyText, leafText, valueAt}
+use Rattle.reading.specs.Adding.{enterNew, snoc, atEntry, insertUnique, unchanged, enterKey, pushLast}
+use Rattle.reading.specs.Adding.{noPath, atPath}
 use Rattle.reading.specs.Taking.{Symbol, ampersand, equals, opening, closing, other, Token}
-use Rattle.reading.specs.Scanning.{Target, root, under, last, Command, skip, needMap, add, Mode, rootKey, value, bracket, keyBelowDepth, keyAtDepth, afterKey, afterBrackets, _then_, finish, step}
+use Rattle.reading.specs.Scanning.{Target, root, under, last, Command, skip, needMap, add, Mode, rootKey, value}
+use Rattle.reading.specs.Scanning.{bracket, keyBelowDepth, keyAtDepth, afterKey, afterBrackets, _then_}
+use Rattle.reading.specs.Scanning.{finish, step}
 use Rattle.reading.specs.Running.{perform, run}
 use Rattle.reading.specs.Shape.{Decided, DecidedAll, DecidedBelow}
 use Rattle.reading.specs.Covering.{Gives, gives, refuses}
@@ -145,7 +149,8 @@ among-decided : (k : Key) (cs : Forest) → ReachAmong k Decided cs → DecidedA
 among-decided k none h = absurd h
 among-decided k (child m l v cs) h = go (compareKeys k (rowKey l)) h (λ q. among-decided k cs q)
   where
-    go : (o : Ordering) → along o (Decided v × DecidedAll cs) (Decided v × ReachAmong k Decided cs) → (ReachAmong k Decided cs → DecidedAll cs) → Decided v × DecidedAll cs
+    go : (o : Ordering) → along o (Decided v × DecidedAll cs) (Decided v × ReachAmong k Decided cs) → (ReachAmong k Decided cs → DecidedAll cs)
+        → Decided v × DecidedAll cs
     go Ordering·lt q further = absurd q
     go Ordering·eq q further = q
     go Ordering·gt q further = (q .0, further (q .1))

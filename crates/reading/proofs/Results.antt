@@ -50,7 +50,8 @@ pub gives-charge : {A : Type 0} {P : A → Used → Type 0} {R : Refusal → Typ
 gives-charge {P} {R} env k x a u few little fits =
     by-test (Gives P R) (ltb (env .lent .records) (u .records + k)) (λ e. refuses (few (ltb-true (env .lent .records) (u .records + k) e)))
     (λ e.
-    by-test (Gives P R) (ltb (env .lent .bytes) (length (u .text) + length x)) (λ f. refuses (little (ltb-true (env .lent .bytes) (length (u .text) + length x) f)))
+    by-test (Gives P R) (ltb (env .lent .bytes) (length (u .text) + length x))
+    (λ f. refuses (little (ltb-true (env .lent .bytes) (length (u .text) + length x) f)))
     (λ f.
     gives
     (fits

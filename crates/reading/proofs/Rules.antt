@@ -11,7 +11,9 @@ use Rattle.refusals.specs.declared.Refusal.the-variants.{SequenceOnMap, Sequenc
 use Rattle.refusals.specs.declared.Refusal.the-variants.{MapOnNull, NoSuchField}
 use Rattle.key.specs.KeyOrder.{compareKeys, choose}
 use Rattle.reading.specs.Charging.{Environment, Used, Made, made, refused, Rule, NodeRule, over, charge}
-use Rattle.reading.specs.Adding.{mapAt, sequenceAt, becomeMap, becomeSequence, leafText, valueAt, insertNew, enterNew, sequenceOfTwo, push, appendValue, appendEmptyKey, atEntry, insertUnique, unchanged, enterKey, pushLast, noPath, atPath}
+use Rattle.reading.specs.Adding.{mapAt, sequenceAt, becomeMap, becomeSequence, leafText, valueAt, insertNew}
+use Rattle.reading.specs.Adding.{enterNew, sequenceOfTwo, push, appendValue, appendEmptyKey, atEntry}
+use Rattle.reading.specs.Adding.{insertUnique, unchanged, enterKey, pushLast, noPath, atPath}
 use Rattle.reading.specs.Shape.{SingleValue, isNull, isNoValue, isString}
 use Rattle.reading.proofs.Results.{by-order}
 

@@ -25,7 +25,8 @@ resume-ends p onward h (refuses r) = refusesAt r
 -- I holds where these takings are left, at this place, in this mode, of this tree and counts.
 module _ (config : Config) (env : Environment) (I : List Token → ℕ → Mode → Node → Used → Type 0) (P : Node → Used → Type 0) (R : Refusal → ℕ → Type 0)
     (taking : (y : Symbol) (b : ℕ) (s : List ℕ) (ts : List Token) (p : ℕ) (m : Mode) (v : Node) (u : Used) → I (token y b s ∷ ts) p m v u
-    → Gives (I ts (p + length (b ∷ s)) ((step config m y (b ∷ s)) .next)) (λ x. R x (p + length (b ∷ s))) (perform env ((step config m y (b ∷ s)) .command) v u))
+    → Gives (I ts (p + length (b ∷ s)) ((step config m y (b ∷ s)) .next)) (λ x. R x (p + length (b ∷ s)))
+    (perform env ((step config m y (b ∷ s)) .command) v u))
     (ending : (p : ℕ) (m : Mode) (v : Node) (u : Used) → I [] p m v u → Gives P (λ x. R x (p + 1)) (perform env (finish config m) v u)) where
   pub run-ends : (ts : List Token) (p : ℕ) (m : Mode) (v : Node) (u : Used) → I ts p m v u → Ends P R (run config env ts p m v u)
   run-ends [] p m v u i = resume-ends (p + 1) accepted (λ w u′ h. accepts h) (ending p m v u i)

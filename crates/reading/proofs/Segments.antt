@@ -31,7 +31,8 @@ key-started : (c : Bool) (path : List Key) (level : ℕ) (opened : List ℕ) (b 
 key-started true path level opened b r h = tt
 key-started false path level opened b r h = some-more opened (b ∷ r) h
 
-open-started : (c : Bool) (s : List ℕ) (d : Command) (path : List Key) (b : ℕ) (r : List ℕ) → Started ((cond c (skip then rootKey s) (d then bracket path 0 (b ∷ r))) .next)
+open-started : (c : Bool) (s : List ℕ) (d : Command) (path : List Key) (b : ℕ) (r : List ℕ)
+    → Started ((cond c (skip then rootKey s) (d then bracket path 0 (b ∷ r))) .next)
 open-started true s d path b r = tt
 open-started false s d path b r = tt
 

@@ -20,14 +20,17 @@ use Rattle.refusals.specs.Codes.{code}
 use Rattle.reading.specs.Charging.{Lent, Environment, Used, rootOnly, Made, made, over, charge}
 use Rattle.reading.specs.Adding.{mapAt, sequenceAt, becomeMap, becomeSequence, keyText, leafText, valueAt, snoc, insertUnique, enterKey, pushLast}
 use Rattle.reading.specs.Taking.{Symbol, ampersand, equals, opening, closing, other, Token, tokens}
-use Rattle.reading.specs.Scanning.{Target, root, under, last, Command, skip, needMap, add, Mode, rootKey, value, bracket, keyBelowDepth, keyAtDepth, afterKey, afterBrackets, _then_, finish, step}
+use Rattle.reading.specs.Scanning.{Target, root, under, last, Command, skip, needMap, add, Mode, rootKey, value}
+use Rattle.reading.specs.Scanning.{bracket, keyBelowDepth, keyAtDepth, afterKey, afterBrackets, _then_}
+use Rattle.reading.specs.Scanning.{finish, step}
 use Rattle.reading.specs.Running.{perform, Answer, run}
 use Rattle.reading.specs.Reading.{lentBy, alone, lending, parsed, outcome}
 use Rattle.reading.specs.Shape.{SingleValue, isNull, isNoValue, isString}
 use Rattle.reading.specs.Space.{NotForSpace, Space}
 use Rattle.reading.specs.Covering.{Gives, gives, refuses, weight, targetText, needs, pending, Covered}
 use Rattle.reading.proofs.Results.{gives-over, gives-map, gives-charge}
-use Rattle.reading.proofs.Rules.{Unfit, onMap, onSingle, onSequence, onString, onNull, Adding, Entering, at-path, append-obeys, insert-obeys, push-obeys, enter-obeys, map-obeys, sequence-obeys}
+use Rattle.reading.proofs.Rules.{Unfit, onMap, onSingle, onSequence, onString, onNull, Adding, Entering, at-path}
+use Rattle.reading.proofs.Rules.{append-obeys, insert-obeys, push-obeys, enter-obeys, map-obeys, sequence-obeys}
 use Rattle.reading.proofs.Changes.{element, two, newChild, newEntry}
 use Rattle.reading.proofs.Runs.{Ends, accepts, refusesAt, run-ends}
 use Rattle.reading.proofs.Takings.{endOf, end-later, tokens-end}
@@ -122,7 +125,8 @@ adding env leaf x h =
       };
       emptyKey = omega arith;
       inserted = λ k g cs u e.
-          pays-charge env x (cost cs) 1 (keyText k ++ leafText leaf) (newChild k leaf cs u) u (cost-some cs) (omega (arith, length-append (keyText k) (leafText leaf)));
+          pays-charge env x (cost cs) 1 (keyText k ++ leafText leaf) (newChild k leaf cs u) u (cost-some cs)
+          (omega (arith, length-append (keyText k) (leafText leaf)));
       becomes = λ l u. pays-charge env x 1 0 (leafText leaf) (at l (valueAt leaf (length (u .text)))) u (omega arith) h;
       paired = λ l v u s. pays-charge env x (weight v + 1) 2 (leafText leaf) (sequenceAt l (two leaf v u)) u (omega (arith, single-weight s)) h;
       pushed = λ l cs u. pays-charge env x 2 1 (leafText leaf) (sequenceAt l (snoc cs (element leaf u))) u (omega arith) h;
@@ -183,7 +187,8 @@ module _ (config : Config) (env : Environment) where
   abbrev Goes : ℕ → ℕ → Mode → Made Node → Type 0
   Goes p q m r = Gives (Covered q m) (FineFrom p) r
 
-  skips : {p : ℕ} {m : Mode} {v : Node} {u : Used} (k : ℕ) (m′ : Mode) → Covered p m v u → needs m′ (v .value) ≤ needs m (v .value) + k → pending m′ ≤ pending m + k
+  skips : {p : ℕ} {m : Mode} {v : Node} {u : Used} (k : ℕ) (m′ : Mode) → Covered p m v u → needs m′ (v .value) ≤ needs m (v .value) + k
+      → pending m′ ≤ pending m + k
       → Goes p (p + k) m′ (made v u)
   skips {v = v} {u = u} k m′ h f g = gives {a = v} {u = u} (record { records = omega (arith, h .records); bytes = omega (arith, h .bytes) })
 
@@ -194,7 +199,8 @@ module _ (config : Config) (env : Environment) where
       (λ x h c d. h (omega arith) (omega arith)) (add-pays env target leaf v u)
 
   enters : (path : List Key) (key : Key) (path′ : List Key) (level : ℕ) (opened : List ℕ) (p : ℕ) (v : Node) (u : Used) → u .records + 1 ≤ 1 + p
-      → length (u .text) + length (keyText key) ≤ p → 1 ≤ length opened → Goes p (p + length opened) (bracket path′ level opened) (perform env (Command.enter path key) v u)
+      → length (u .text) + length (keyText key) ≤ p → 1 ≤ length opened
+      → Goes p (p + length opened) (bracket path′ level opened) (perform env (Command.enter path key) v u)
   enters path key path′ level opened p v u f g j =
       gives-map (λ w u′ h. record { records = omega (arith, h .records); bytes = omega (arith, h .bytes) }) (λ x h c d. h (omega arith) (omega arith))
       (enter-pays env path key v u)
@@ -224,8 +230,10 @@ module _ (config : Config) (env : Environment) where
   finish-covered (keyBelowDepth path level s) p q v u j h = refuses (λ c d. tt)
   finish-covered (keyAtDepth path s) p q v u j h =
       adds (under path (keyOf config s)) Leaf.noValue p q v u j (omega (arith, h .records, weight-le (v .value))) (omega (arith, h .bytes, key-le config s))
-  finish-covered (afterKey path level key) p q v u j h = adds (under path key) Leaf.noValue p q v u j (omega (arith, h .records, weight-le (v .value))) (omega (arith, h .bytes))
-  finish-covered (afterBrackets path) p q v u j h = adds (last path) Leaf.noValue p q v u j (omega (arith, h .records, weight-le (v .value))) (omega (arith, h .bytes))
+  finish-covered (afterKey path level key) p q v u j h =
+      adds (under path key) Leaf.noValue p q v u j (omega (arith, h .records, weight-le (v .value))) (omega (arith, h .bytes))
+  finish-covered (afterBrackets path) p q v u j h =
+      adds (last path) Leaf.noValue p q v u j (omega (arith, h .records, weight-le (v .value))) (omega (arith, h .bytes))
 
   lengthens : (s : List ℕ) (b : ℕ) (r : List ℕ) (p : ℕ) (v : Node) (u : Used) → Covered p (rootKey s) v u
       → Goes p (p + length (b ∷ r)) (rootKey (s ++ (b ∷ r))) (made v u)
@@ -244,17 +252,22 @@ module _ (config : Config) (env : Environment) where
       (lengthens [] b r p v u h)
       (skips (length (b ∷ r)) (bracket [] 0 (b ∷ r)) h (omega arith) (omega arith))
   step-covered (rootKey (c ∷ s)) opening b r p v u h =
-      nests (eqb (config .depth) 0) (Command.enter [] (keyOf config (c ∷ s))) (bracket (keyOf config (c ∷ s) ∷ []) 0 (b ∷ r)) ((c ∷ s) ++ (b ∷ r)) p (p + length (b ∷ r)) v u
+      nests (eqb (config .depth) 0) (Command.enter [] (keyOf config (c ∷ s))) (bracket (keyOf config (c ∷ s) ∷ []) 0 (b ∷ r)) ((c ∷ s) ++ (b ∷ r))
+      p (p + length (b ∷ r)) v u
       (lengthens (c ∷ s) b r p v u h)
       (enters [] (keyOf config (c ∷ s)) (keyOf config (c ∷ s) ∷ []) 0 (b ∷ r) p v u (omega (arith, h .records))
       (omega (arith, h .bytes, key-le config (c ∷ s))) (omega arith))
   step-covered (rootKey s) closing b r p v u h = lengthens s b r p v u h
   step-covered (rootKey s) other b r p v u h = lengthens s b r p v u h
   step-covered (value target s) ampersand b r p v u h = finish-covered (value target s) p (p + length (b ∷ r)) v u (omega arith) h
-  step-covered (value target s) equals b r p v u h = skips (length (b ∷ r)) (value target (s ++ (b ∷ r))) h (omega arith) (omega (arith, length-append s (b ∷ r)))
-  step-covered (value target s) opening b r p v u h = skips (length (b ∷ r)) (value target (s ++ (b ∷ r))) h (omega arith) (omega (arith, length-append s (b ∷ r)))
-  step-covered (value target s) closing b r p v u h = skips (length (b ∷ r)) (value target (s ++ (b ∷ r))) h (omega arith) (omega (arith, length-append s (b ∷ r)))
-  step-covered (value target s) other b r p v u h = skips (length (b ∷ r)) (value target (s ++ (b ∷ r))) h (omega arith) (omega (arith, length-append s (b ∷ r)))
+  step-covered (value target s) equals b r p v u h =
+      skips (length (b ∷ r)) (value target (s ++ (b ∷ r))) h (omega arith) (omega (arith, length-append s (b ∷ r)))
+  step-covered (value target s) opening b r p v u h =
+      skips (length (b ∷ r)) (value target (s ++ (b ∷ r))) h (omega arith) (omega (arith, length-append s (b ∷ r)))
+  step-covered (value target s) closing b r p v u h =
+      skips (length (b ∷ r)) (value target (s ++ (b ∷ r))) h (omega arith) (omega (arith, length-append s (b ∷ r)))
+  step-covered (value target s) other b r p v u h =
+      skips (length (b ∷ r)) (value target (s ++ (b ∷ r))) h (omega arith) (omega (arith, length-append s (b ∷ r)))
   step-covered (bracket path level opened) ampersand b r p v u h = opens-key (ltb level (config .depth)) path level opened (b ∷ r) p v u (omega arith) h
   step-covered (bracket path level opened) equals b r p v u h = opens-key (ltb level (config .depth)) path level opened (b ∷ r) p v u (omega arith) h
   step-covered (bracket path level opened) opening b r p v u h = opens-key (ltb level (config .depth)) path level opened (b ∷ r) p v u (omega arith) h
@@ -275,11 +288,15 @@ module _ (config : Config) (env : Environment) where
   step-covered (keyAtDepth path s) ampersand b r p v u h = finish-covered (keyAtDepth path s) p (p + length (b ∷ r)) v u (omega arith) h
   step-covered (keyAtDepth path s) equals b r p v u h = skips (length (b ∷ r)) (value (under path (keyOf config s)) []) h
       (omega (arith, weight-le (v .value))) (omega (arith, key-le config s))
-  step-covered (keyAtDepth path s) opening b r p v u h = skips (length (b ∷ r)) (keyAtDepth path (s ++ (b ∷ r))) h (omega arith) (omega (arith, length-append s (b ∷ r)))
-  step-covered (keyAtDepth path s) closing b r p v u h = skips (length (b ∷ r)) (keyAtDepth path (s ++ (b ∷ r))) h (omega arith) (omega (arith, length-append s (b ∷ r)))
-  step-covered (keyAtDepth path s) other b r p v u h = skips (length (b ∷ r)) (keyAtDepth path (s ++ (b ∷ r))) h (omega arith) (omega (arith, length-append s (b ∷ r)))
+  step-covered (keyAtDepth path s) opening b r p v u h =
+      skips (length (b ∷ r)) (keyAtDepth path (s ++ (b ∷ r))) h (omega arith) (omega (arith, length-append s (b ∷ r)))
+  step-covered (keyAtDepth path s) closing b r p v u h =
+      skips (length (b ∷ r)) (keyAtDepth path (s ++ (b ∷ r))) h (omega arith) (omega (arith, length-append s (b ∷ r)))
+  step-covered (keyAtDepth path s) other b r p v u h =
+      skips (length (b ∷ r)) (keyAtDepth path (s ++ (b ∷ r))) h (omega arith) (omega (arith, length-append s (b ∷ r)))
   step-covered (afterKey path level key) ampersand b r p v u h = finish-covered (afterKey path level key) p (p + length (b ∷ r)) v u (omega arith) h
-  step-covered (afterKey path level key) equals b r p v u h = skips (length (b ∷ r)) (value (under path key) []) h (omega (arith, weight-le (v .value))) (omega arith)
+  step-covered (afterKey path level key) equals b r p v u h =
+      skips (length (b ∷ r)) (value (under path key) []) h (omega (arith, weight-le (v .value))) (omega arith)
   step-covered (afterKey path level key) opening b r p v u h = enters path key (path ++ (key ∷ [])) (level + 1) (b ∷ r) p v u
       (omega (arith, h .records)) (h .bytes) (omega arith)
   step-covered (afterKey path level key) closing b r p v u h = refuses (λ c d. tt)

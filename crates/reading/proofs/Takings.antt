@@ -8,7 +8,8 @@ use lib.Dec.{eqb}
 use lib.ListN.{length}
 use Rattle.ascii.specs.Bytes as byte
 use Rattle.config.specs.declared.Config.{Config}
-use Rattle.reading.specs.Taking.{ampersand, opening, closing, Token, token, byteToken, Escape, opens, closes, neither, escape, byEscape, byteTokens, formTokens, tokens}
+use Rattle.reading.specs.Taking.{ampersand, opening, closing, Token, token, byteToken, Escape, opens, closes}
+use Rattle.reading.specs.Taking.{neither, escape, byEscape, byteTokens, formTokens, tokens}
 
 bytes-split : (a b : List ℕ) → byteTokens (a ++ (byte.ampersand ∷ b)) ≡ byteTokens a ++ (token ampersand byte.ampersand [] ∷ byteTokens b)
 bytes-split [] b = refl
@@ -29,7 +30,8 @@ third-ampersand b c = go (eqb b 37 && eqb c 53)
     go true = refl
     go false = refl
 
-by-escape-split : (e : Escape) {p q r : List Token} (p′ q′ r′ ts : List Token) → p ≡ p′ ++ ts → q ≡ q′ ++ ts → r ≡ r′ ++ ts → byEscape e p q r ≡ byEscape e p′ q′ r′ ++ ts
+by-escape-split : (e : Escape) {p q r : List Token} (p′ q′ r′ ts : List Token) → p ≡ p′ ++ ts → q ≡ q′ ++ ts → r ≡ r′ ++ ts
+    → byEscape e p q r ≡ byEscape e p′ q′ r′ ++ ts
 by-escape-split opens p′ q′ r′ ts f g h = f
 by-escape-split closes p′ q′ r′ ts f g h = g
 by-escape-split neither p′ q′ r′ ts f g h = h
@@ -42,11 +44,14 @@ form-split (x ∷ []) [] = refl
 form-split (x ∷ []) (d ∷ s) = rw (second-ampersand x d) (ap (byteToken x ∷_) (form-split [] (d ∷ s)))
 form-split (x ∷ y ∷ []) b = rw (third-ampersand x y) (ap (byteToken x ∷_) (form-split (y ∷ []) b))
 form-split (x ∷ y ∷ z ∷ a) b =
-    by-escape-split (escape x y z) (token opening x (y ∷ z ∷ []) ∷ formTokens a) (token closing x (y ∷ z ∷ []) ∷ formTokens a) (byteToken x ∷ formTokens (y ∷ z ∷ a))
-    (token ampersand byte.ampersand [] ∷ formTokens b) (ap (token opening x (y ∷ z ∷ []) ∷_) (form-split a b)) (ap (token closing x (y ∷ z ∷ []) ∷_) (form-split a b))
+    by-escape-split (escape x y z) (token opening x (y ∷ z ∷ []) ∷ formTokens a) (token closing x (y ∷ z ∷ []) ∷ formTokens a)
+    (byteToken x ∷ formTokens (y ∷ z ∷ a))
+    (token ampersand byte.ampersand [] ∷ formTokens b) (ap (token opening x (y ∷ z ∷ []) ∷_) (form-split a b))
+    (ap (token closing x (y ∷ z ∷ []) ∷_) (form-split a b))
     (ap (byteToken x ∷_) (form-split (y ∷ z ∷ a) b))
 
-pub tokens-split : (config : Config) (a b : List ℕ) → tokens config (a ++ (byte.ampersand ∷ b)) ≡ tokens config a ++ (token ampersand byte.ampersand [] ∷ tokens config b)
+pub tokens-split : (config : Config) (a b : List ℕ)
+    → tokens config (a ++ (byte.ampersand ∷ b)) ≡ tokens config a ++ (token ampersand byte.ampersand [] ∷ tokens config b)
 tokens-split config a b = go (config .form)
   where
     go : (f : Bool)
@@ -75,7 +80,8 @@ form-end (x ∷ y ∷ []) p = omega arith
 form-end (x ∷ y ∷ z ∷ a) p = go (escape x y z) (form-end a (p + 3)) (form-end (y ∷ z ∷ a) (p + 1))
   where
     go : (e : Escape) → endOf (formTokens a) (p + 3) ≡ p + 3 + length a + 1 → endOf (formTokens (y ∷ z ∷ a)) (p + 1) ≡ p + 1 + length (y ∷ z ∷ a) + 1
-        → endOf (byEscape e (token opening x (y ∷ z ∷ []) ∷ formTokens a) (token closing x (y ∷ z ∷ []) ∷ formTokens a) (byteToken x ∷ formTokens (y ∷ z ∷ a))) p
+        → endOf (byEscape e (token opening x (y ∷ z ∷ []) ∷ formTokens a) (token closing x (y ∷ z ∷ []) ∷ formTokens a)
+        (byteToken x ∷ formTokens (y ∷ z ∷ a))) p
         ≡ p + length (x ∷ y ∷ z ∷ a) + 1
     go opens f g = f ∙ omega arith
     go closes f g = f ∙ omega arith

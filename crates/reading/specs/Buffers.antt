@@ -7,7 +7,7 @@ use mathlib.Core.Bool.{Bool, false, cond}
 use mathlib.Core.List.{List}
 use lib.Dec.{eqb}
 use lib.ListN.{length}
-use Rattle.row.specs.Row.{kindWord, keyKindWord, keyWord, keyLengthWord, textWord, textLengthWord, childWord, nextWord}
+use Rattle.row.specs.Row.{kindWord, keyKindWord, keyWord, keyLenWord, textWord, textLenWord, childWord, nextWord}
 use Rattle.row.specs.Row.{mapKind, sequenceKind, stringKind, nullKind, noValueKind, intKeyKind}
 use Rattle.row.specs.Words.{word, textPart}
 use Rattle.reading.specs.Values.{Label, unkeyed, intKey, stringKey, Row, Value, uninitialized, null, noValue}
@@ -18,7 +18,7 @@ use Rattle.reading.specs.Trees.{Tree, plain}
 abbrev pub labelIn : Bool → List ℕ → List ℕ → ℕ → Label
 labelIn keyed words text i =
     let key = word words i keyWord in
-    let bytes = textPart text key (word words i keyLengthWord) in
+    let bytes = textPart text key (word words i keyLenWord) in
     cond keyed (cond (eqb (word words i keyKindWord) intKeyKind) (intKey key) (stringKey key bytes))
     unkeyed
 
@@ -42,7 +42,7 @@ abbrev mutual
   pub valueWithin : ℕ → List ℕ → List ℕ → ℕ → Value
   valueWithin zero words text i = uninitialized
   valueWithin (suc steps) words text i =
-      let bytes = textPart text (word words i textWord) (word words i textLengthWord) in
+      let bytes = textPart text (word words i textWord) (word words i textLenWord) in
       let children = forestWithin steps (eqb (word words i kindWord) mapKind) words text (word words i childWord) in
       byKind (word words i kindWord) (string (word words i textWord) bytes) children
 

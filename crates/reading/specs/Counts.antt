@@ -29,9 +29,9 @@ abbrev mutual
   elementValues noElements = 0
   elementValues (element value xs) = values value + elementValues xs
 
-abbrev pub keyLength : Key → ℕ
-keyLength (int a) = 0
-keyLength (str x) = length x
+abbrev pub keyLen : Key → ℕ
+keyLen (int a) = 0
+keyLen (str x) = length x
 
 -- The lengths of a tree's String keys and String values together.
 abbrev mutual
@@ -45,7 +45,7 @@ abbrev mutual
 
   pub entryBytes : Entries → ℕ
   entryBytes noEntries = 0
-  entryBytes (entry key value es) = keyLength key + textBytes value + entryBytes es
+  entryBytes (entry key value es) = keyLen key + textBytes value + entryBytes es
 
   pub elementBytes : Elements → ℕ
   elementBytes noElements = 0

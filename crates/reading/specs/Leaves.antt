@@ -2,6 +2,8 @@
 use Prim.Native.Nat.{ℕ}
 use mathlib.Core.List.{List, [], _∷_}
 use Rattle.decode.specs.Decoding.{decoded}
+use Rattle.reading.specs.declared.LeafKind.{LeafKind}
+use Rattle.reading.specs.declared.LeafKind.the-variants.{Null, NoValue, String}
 
 -- A "single" value (document 01's term) that has no record yet: Null, NoValue, or a String's bytes.
 pub data Leaf : Type 0 where
@@ -12,3 +14,9 @@ pub data Leaf : Type 0 where
 abbrev pub valueOf : List ℕ → Leaf
 valueOf [] = null
 valueOf (b ∷ s) = string (decoded (b ∷ s))
+
+-- The single value that a kind stands for, with the raw segment beside it: only a String looks at the segment.
+abbrev pub leafOf : LeafKind → List ℕ → Leaf
+leafOf Null raw = null
+leafOf NoValue raw = noValue
+leafOf String raw = string (decoded raw)

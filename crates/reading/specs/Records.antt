@@ -30,10 +30,10 @@ keyOffset unkeyed = 0
 keyOffset (intKey a) = a
 keyOffset (stringKey o x) = o
 
-abbrev pub keyLength : Label → ℕ
-keyLength unkeyed = 0
-keyLength (intKey a) = 0
-keyLength (stringKey o x) = length x
+abbrev pub keyLen : Label → ℕ
+keyLen unkeyed = 0
+keyLen (intKey a) = 0
+keyLen (stringKey o x) = length x
 
 -- "4, 5 value's text offset and length, both 0 unless String"
 abbrev pub textOffset : Value → ℕ
@@ -44,13 +44,13 @@ textOffset (string o x) = o
 textOffset null = 0
 textOffset noValue = 0
 
-abbrev pub textLength : Value → ℕ
-textLength uninitialized = 0
-textLength (map children) = 0
-textLength (sequence children) = 0
-textLength (string o x) = length x
-textLength null = 0
-textLength noValue = 0
+abbrev pub textLen : Value → ℕ
+textLen uninitialized = 0
+textLen (map children) = 0
+textLen (sequence children) = 0
+textLen (string o x) = length x
+textLen null = 0
+textLen noValue = 0
 
 -- "6 first child's record number, 7 next sibling's, 0 for none"
 abbrev pub first : Forest → ℕ
@@ -69,8 +69,8 @@ firstChild noValue = 0
 abbrev pub recordWords : Row → Value → Forest → List ℕ
 recordWords row value later =
     let label = row .label in
-    kind value ∷ keyKind label ∷ keyOffset label ∷ keyLength label
-    ∷ textOffset value ∷ textLength value ∷ firstChild value ∷ first later ∷ []
+    kind value ∷ keyKind label ∷ keyOffset label ∷ keyLen label
+    ∷ textOffset value ∷ textLen value ∷ firstChild value ∷ first later ∷ []
 
 -- The record of number i below a value, and among some children and all below them; else the default d.
 abbrev mutual

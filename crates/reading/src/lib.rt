@@ -1,7 +1,7 @@
 // What a query string means: document 01's reading as definitions (specs/) and the theorems over them (proofs/). It has
-// no code but the struct of a reading's answer. The headline is specs/Reading; what is proved of it stands in
-// specs/Answers, Limits, Placed, TreeHeld, ReadBack, Counts, Shape, UniqueKeys, Space, Fitting, Joining, Growth,
-// Starred and Others, and of what growth rules out in specs/Lost.
+// no code but the struct of a reading's answer and the kinds of a single value. The headline is specs/Reading; what is
+// proved of it stands in specs/Answers, Limits, Placed, TreeHeld, ReadBack, Counts, Shape, UniqueKeys, Space, Fitting,
+// Joining, Growth, Starred and Others, and of what growth rules out in specs/Lost.
 // Below it stand the settings (config), the key rule (key), decoding (decode), the refusals (refusals), a record's row
 // (row), bytes by name (ascii) and laws.
 
@@ -13,4 +13,12 @@ pub struct Reading {
     pub place: u32,
     pub records: u32,
     pub bytes: u32,
+}
+
+// The kind of a single value (document 01's term) that is added to a tree; a String is a raw segment, which stands
+// beside it, decoded.
+pub enum LeafKind {
+    Null,
+    NoValue,
+    String,
 }

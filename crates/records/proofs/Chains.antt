@@ -10,8 +10,10 @@ use Rattle.records.specs.declared.keys.Ordering.the-variants.{Less, Equa
 use Rattle.records.specs.declared.siblings.Position.the-variants.{Found, Between}
 use Rattle.row.specs.Row.{childWord, nextWord}
 use Rattle.row.specs.Words.{recordCount, word}
+use Rattle.records.specs.Records.{keyWordsAt}
+use Rattle.records.specs.Keys.{InText}
 use Rattle.records.specs.Order.{orderingOf}
-use Rattle.records.specs.Siblings.{chain, children, lastOf, seek, Within, Ends, Linked}
+use Rattle.records.specs.Siblings.{chain, children, lastOf, seek, Within, ChainEnds, Linked, WellFormed, ForSome}
 
 pub chain-end : (ws : List ℕ) (f : ℕ) → chain ws f 0 ≡ []
 unfolding chain
@@ -32,37 +34,53 @@ chain-step ws (suc f) zero n h = absurd (n refl)
 chain-step ws (suc f) (suc m) n h = ap (λ (l : List ℕ). suc m ∷ l) (sym (chain-more ws f (word ws (suc m) nextWord) (omega arith)))
 
 -- A record of a list that ends, and the rest of the list.
-module _ (ws : List ℕ) {cur : ℕ} (e : Ends ws cur) (n : cur ≢ 0) where
+module _ (ws : List ℕ) {used cur : ℕ} (e : ChainEnds ws used cur) (n : cur ≢ 0) where
   pub step : chain ws (recordCount ws) cur ≡ cur ∷ chain ws (recordCount ws) (word ws cur nextWord)
-  step = chain-step ws (recordCount ws) cur n (e .1)
+  step = chain-step ws (recordCount ws) cur n (e .few)
 
-  parts : Within 0 (recordCount ws) (cur ∷ chain ws (recordCount ws) (word ws cur nextWord))
-  parts = rw step at (e .0)
+  parts : Within 0 used (cur ∷ chain ws (recordCount ws) (word ws cur nextWord))
+  parts = rw step at (e .within)
 
-  pub is-record : cur < recordCount ws
+  pub is-record : cur < used
   is-record = parts .1
 
   pub chain-falls : length (chain ws (recordCount ws) (word ws cur nextWord)) < length (chain ws (recordCount ws) cur)
   chain-falls = rw step (omega arith)
 
-  pub ends-next : Ends ws (word ws cur nextWord)
-  ends-next = (parts .2, omega (arith, chain-falls, e .1))
+  pub ends-next : ChainEnds ws used (word ws cur nextWord)
+  ends-next = record { within = parts .2; few = omega (arith, chain-falls, e .few) }
 
 -- The loop of `walk`: the place in the rest of the list is the place in the whole.
-pub record Walking (stands : ℕ → Ordering) (ws : List ℕ) (before start prev cur : ℕ) : Type 0 where
-  pub ends : Ends ws cur
+pub record Walking (stands : ℕ → Ordering) (ws text : List ℕ) (before start prev cur : ℕ) : Type 0 where
+  pub among : ForSome (λ used. WellFormed ws text used × ChainEnds ws used cur)
   pub so-far : seek stands prev (chain ws (recordCount ws) cur) ≡ seek stands before (chain ws (recordCount ws) start)
 
-module _ {stands : ℕ → Ordering} {ws : List ℕ} {before start prev cur : ℕ} (v : Walking stands ws before start prev cur) where
+module _ {stands : ℕ → Ordering} {ws text : List ℕ} {before start prev cur : ℕ} (v : Walking stands ws text before start prev cur) where
+  abbrev pub walking-ends : ChainEnds ws (v .among .used) cur
+  walking-ends = v .among .holds .1
+
   module _ (n : cur ≢ 0) where
+    pub walking-record : cur < recordCount ws
+    walking-record = omega (arith, is-record ws walking-ends n, v .among .holds .0 .links .room)
+
+    pub walking-key : InText text (keyWordsAt ws cur)
+    walking-key = v .among .holds .0 .keys cur (is-record ws walking-ends n)
+
+    pub walking-falls : length (chain ws (recordCount ws) (word ws cur nextWord)) < length (chain ws (recordCount ws) cur)
+    walking-falls = chain-falls ws walking-ends n
+
     on : seek stands prev (cur ∷ chain ws (recordCount ws) (word ws cur nextWord)) ≡ seek stands before (chain ws (recordCount ws) start)
-    on = rw (step ws (v .ends) n) at (v .so-far)
+    on = rw (step ws walking-ends n) at (v .so-far)
 
     -- By the answer o of `compare_key`.
     module _ {o : KeyOrdering} (e : orderingOf o ≡ stands cur) where
-      pub walking-on : o ≡ Less → Walking stands ws before start cur (word ws cur nextWord)
+      pub walking-on : o ≡ Less → Walking stands ws text before start cur (word ws cur nextWord)
       unfolding seek
-      walking-on f = record { ends = ends-next ws (v .ends) n; so-far = rw (sym e ∙ ap orderingOf f) at on }
+      walking-on f =
+          record {
+            among = record { used = v .among .used; holds = (v .among .holds .0, ends-next ws walking-ends n) };
+            so-far = rw (sym e ∙ ap orderingOf f) at on;
+          }
 
       pub walking-found : o ≡ Equal → Found cur ≡ seek stands before (chain ws (recordCount ws) start)
       unfolding seek
@@ -78,12 +96,25 @@ module _ {stands : ℕ → Ordering} {ws : List ℕ} {before start prev cur : �
 
 -- The loop of `last_child`.
 pub record Passing (ws : List ℕ) (parent prev cur : ℕ) : Type 0 where
-  pub ends : Ends ws cur
+  pub among : ForSome (λ used. Linked ws used × ChainEnds ws used cur)
   pub so-far : lastOf prev (chain ws (recordCount ws) cur) ≡ lastOf 0 (children ws parent)
 
 module _ {ws : List ℕ} {parent prev cur : ℕ} (v : Passing ws parent prev cur) where
+  abbrev passing-ends : ChainEnds ws (v .among .used) cur
+  passing-ends = v .among .holds .1
+
+  pub passing-record : cur ≢ 0 → cur < recordCount ws
+  passing-record n = omega (arith, is-record ws passing-ends n, v .among .holds .0 .room)
+
+  pub passing-falls : cur ≢ 0 → length (chain ws (recordCount ws) (word ws cur nextWord)) < length (chain ws (recordCount ws) cur)
+  passing-falls n = chain-falls ws passing-ends n
+
   pub passing-on : cur ≢ 0 → Passing ws parent cur (word ws cur nextWord)
-  passing-on n = record { ends = ends-next ws (v .ends) n; so-far = rw (step ws (v .ends) n) at (v .so-far) }
+  passing-on n =
+      record {
+        among = record { used = v .among .used; holds = (v .among .holds .0, ends-next ws passing-ends n) };
+        so-far = rw (step ws passing-ends n) at (v .so-far);
+      }
 
   pub passing-end : cur ≡ 0 → prev ≡ lastOf 0 (children ws parent)
   passing-end e = rw (e, chain-end ws (recordCount ws)) at (v .so-far)
@@ -97,15 +128,15 @@ last-within lo hi d [] l h = l
 last-within lo hi d (m ∷ ms) l h = last-within lo hi m ms (h .1) (h .2)
 
 -- The children of a record.
-module _ {ws : List ℕ} (k : Linked ws) (n : ℕ) (l : n < recordCount ws) where
-  pub children-end : Ends ws (word ws n childWord)
-  children-end = (within-lower n (recordCount ws) (children ws n) (k .rising n l), k .ends n l)
+module _ {ws : List ℕ} {used : ℕ} (k : Linked ws used) (n : ℕ) (l : n < used) where
+  pub children-end : ChainEnds ws used (word ws n childWord)
+  children-end = record { within = within-lower n used (children ws n) (k .rising n l); few = k .ends n l }
 
   pub passing-start : Passing ws n 0 (word ws n childWord)
-  passing-start = record { ends = children-end; so-far = refl }
+  passing-start = record { among = record { used = used; holds = (k, children-end) }; so-far = refl }
 
-  pub last-inside : lastOf 0 (children ws n) < recordCount ws
-  last-inside = last-within n (recordCount ws) 0 (children ws n) (omega arith) (k .rising n l)
+  pub last-inside : lastOf 0 (children ws n) < used
+  last-inside = last-within n used 0 (children ws n) (omega arith) (k .rising n l)
 
 -- A key is not at a child and between two.
 pub never-both : {A : Type 0} (m p x : ℕ) → Found m ≡ Between p x → A

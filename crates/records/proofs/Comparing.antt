@@ -1,5 +1,5 @@
 -- Keys compared: the loop over the bytes, and a record's key by its kind and that of the one looked for.
-use mathlib.Core.Path.{_≡_, ap, sym, _∙_}
+use mathlib.Core.Path.{_≡_, refl, ap, sym, _∙_}
 use mathlib.Core.Logic.{_≢_}
 use mathlib.Core.Bool.{true, false}
 use mathlib.Core.List.{List}
@@ -13,15 +13,15 @@ use Rattle.laws.proofs.Lists.{drop-1}
 use Rattle.decode.specs.Decoding.{decoded}
 use Rattle.decode.specs.Stepping.{rest, Yields}
 use Rattle.decode.proofs.Steps.{rest-zero, rest-done}
+use Rattle.key.specs.Keys.{int, str}
 use Rattle.key.specs.KeyOrder.{compareBytes, compareKeys, andThen}
 use Rattle.key.proofs.KeyOrders.{compare-less, compare-greater, compare-equal}
-use Rattle.records.specs.declared.keys.RawKey.the-variants.{Int, String}
-use Rattle.row.specs.Row.{keyKindWord, keyWord, keyLengthWord, intKeyKind}
+use Rattle.row.specs.Row.{keyKindWord, keyWord, keyLenWord, intKeyKind}
 use Rattle.row.specs.Words.{word}
 use Rattle.records.specs.Records.{keyWordsAt}
-use Rattle.records.specs.Keys.{storedKey, keyAt, InText, meantKey}
+use Rattle.records.specs.Keys.{storedKey, keyAt, InText}
 
--- The loop of `compare_bytes`: what is left to be compared gives the whole answer.
+-- The loop of `compare_escaped`: what is left to be compared gives the whole answer.
 pub record Comparing (bytes raw : List ℕ) (i j k : ℕ) : Type 0 where
   pub inside : i ≤ length bytes
   pub within : j ≤ length raw
@@ -54,32 +54,64 @@ module _ {bytes raw : List ℕ} {i j k : ℕ} (v : Comparing bytes raw i j k) wh
       pub byte-equal : b ≤ getD bytes i 0 → getD bytes i 0 ≤ b → Comparing bytes raw (i + 1) j' k'
       byte-equal g h = record { inside = omega arith; within = s .within; so-far = simp (compare-equal _ _ h g) at here }
 
--- The four cases of `compare_key`, by the kind of the record's key and that of the one looked for.
-module _ (ws text : List ℕ) (n : ℕ) (raw : List ℕ) {kind : ℕ} (e : kind ≡ word ws n keyKindWord) where
+-- The loop of `compare_bytes`.
+pub record Aligned (a b : List ℕ) (i : ℕ) : Type 0 where
+  pub inside : i ≤ length a
+  pub so-far : compareBytes (drop i a) (drop i b) ≡ compareBytes a b
+
+pub aligned-start : (a b : List ℕ) → Aligned a b 0
+aligned-start a b = record { inside = omega arith; so-far = refl }
+
+module _ {a b : List ℕ} {i : ℕ} (v : Aligned a b i) where
+  pub aligned-more : length b ≤ i → i < length a → Ordering·gt ≡ compareBytes a b
+  aligned-more h l = rw (drop-of-length-le b h, drop-1 a i l) at (v .so-far)
+
+  pub aligned-done : length b ≤ i → length a ≤ i → Ordering·eq ≡ compareBytes a b
+  aligned-done h l = rw (drop-of-length-le b h, drop-of-length-le a l) at (v .so-far)
+
+  module _ (h : i < length b) where
+    pub aligned-short : length a ≤ i → Ordering·lt ≡ compareBytes a b
+    aligned-short l = rw (drop-of-length-le a l, drop-1 b i h) at (v .so-far)
+
+    module _ (l : i < length a) where
+      both : andThen (compare (getD a i 0) (getD b i 0)) (compareBytes (drop (i + 1) a) (drop (i + 1) b)) ≡ compareBytes a b
+      both = rw (drop-1 a i l, drop-1 b i h) at (v .so-far)
+
+      pub aligned-less : getD a i 0 < getD b i 0 → Ordering·lt ≡ compareBytes a b
+      aligned-less g = simp (compare-less _ _ g) at both
+
+      pub aligned-greater : getD b i 0 < getD a i 0 → Ordering·gt ≡ compareBytes a b
+      aligned-greater g = simp (compare-greater _ _ g) at both
+
+      pub aligned-next : getD b i 0 ≤ getD a i 0 → getD a i 0 ≤ getD b i 0 → Aligned a b (i + 1)
+      aligned-next g k = record { inside = omega arith; so-far = simp (compare-equal _ _ k g) at both }
+
+-- An Int looked for and a String, by the kind of the record's key.
+module _ (ws text : List ℕ) (n : ℕ) {kind : ℕ} (e : kind ≡ word ws n keyKindWord) where
   is-int : kind ≡ intKeyKind → eqb (word ws n keyKindWord) intKeyKind ≡ true
   is-int h = eq-eqb (word ws n keyKindWord) intKeyKind (sym e ∙ h)
 
   is-string : kind ≢ intKeyKind → eqb (word ws n keyKindWord) intKeyKind ≡ false
   is-string h = ne-eqb (word ws n keyKindWord) intKeyKind (λ q. h (e ∙ q))
 
-  pub int-int : {x : ℕ} (i : ℕ) → kind ≡ intKeyKind → x ≡ word ws n keyWord → compare x i ≡ compareKeys (keyAt ws text n) (meantKey (Int i) raw)
-  unfolding keyWordsAt storedKey meantKey
+  pub int-int : {x : ℕ} (i : ℕ) → kind ≡ intKeyKind → x ≡ word ws n keyWord → compare x i ≡ compareKeys (keyAt ws text n) (int i)
+  unfolding keyWordsAt storedKey
   int-int i h q = simp (is-int h, q)
 
-  pub string-int : (i : ℕ) → kind ≢ intKeyKind → Ordering·gt ≡ compareKeys (keyAt ws text n) (meantKey (Int i) raw)
-  unfolding keyWordsAt storedKey meantKey
+  pub string-int : (i : ℕ) → kind ≢ intKeyKind → Ordering·gt ≡ compareKeys (keyAt ws text n) (int i)
+  unfolding keyWordsAt storedKey
   string-int i h = simp (is-string h)
 
-  pub int-string : kind ≡ intKeyKind → Ordering·lt ≡ compareKeys (keyAt ws text n) (meantKey String raw)
-  unfolding keyWordsAt storedKey meantKey
-  int-string h = simp (is-int h)
+  pub int-string : (x : List ℕ) → kind ≡ intKeyKind → Ordering·lt ≡ compareKeys (keyAt ws text n) (str x)
+  unfolding keyWordsAt storedKey
+  int-string x h = simp (is-int h)
 
   -- A String is the part of the text that is compared.
-  module _ (h : kind ≢ intKeyKind) {start len : ℕ} (p : start ≡ word ws n keyWord) (q : len ≡ word ws n keyLengthWord) where
+  module _ (h : kind ≢ intKeyKind) {start len : ℕ} (p : start ≡ word ws n keyWord) (q : len ≡ word ws n keyLenWord) where
     pub string-inside : InText text (keyWordsAt ws n) → start + len ≤ length text
     unfolding keyWordsAt
     string-inside i = omega (arith, i (λ z. h (e ∙ z)))
 
-    pub string-string : compareBytes (take (start + len - start) (drop start text)) (decoded raw) ≡ compareKeys (keyAt ws text n) (meantKey String raw)
-    unfolding keyWordsAt storedKey meantKey
-    string-string = simp (is-string h, add-sub-cancel-left, p, q)
+    pub string-string : (x : List ℕ) → compareBytes (take (start + len - start) (drop start text)) x ≡ compareKeys (keyAt ws text n) (str x)
+    unfolding keyWordsAt storedKey
+    string-string x = simp (is-string h, add-sub-cancel-left, p, q)

@@ -6,7 +6,7 @@ use Prim.Native.Nat.{ℕ, zero, suc, _+_, _≤_, _<_}
 use native.Mathlib.Omega.{arith}
 use borrow.Author.Tests.{eq-eqb, ne-eqb}
 use lib.ListN.{length, getD}
-use Rattle.row.specs.Row.{recordWidth, kindWord, keyKindWord, keyWord, keyLengthWord, textWord, textLengthWord}
+use Rattle.row.specs.Row.{recordWidth, kindWord, keyKindWord, keyWord, keyLenWord, textWord, textLenWord}
 use Rattle.row.specs.Row.{childWord, nextWord}
 use Rattle.records.specs.declared.store.Record.{Record}
 use Rattle.row.specs.Words.{word}
@@ -79,9 +79,9 @@ module _ (ws ws' : List ℕ) where
     e kindWord (omega arith),
     e keyKindWord (omega arith),
     e keyWord (omega arith),
-    e keyLengthWord (omega arith),
+    e keyLenWord (omega arith),
     e textWord (omega arith),
-    e textLengthWord (omega arith),
+    e textLenWord (omega arith),
   )
 
   pub row-kept : {n : ℕ} {r : Record} {child next : ℕ} → ((w : ℕ) → w < recordWidth → word ws' n w ≡ word ws n w)

@@ -171,9 +171,6 @@ module _ {ws text : List ℕ} {used : ℕ} (n : ℕ) (r : Record) (c s : Nodes) 
             (λ m g. above m g (ℕ-discrete m used), rising-insert stands used new c 0 p x e (node-rising n r c s a k .1), node-rising n r c s a k .2)
             (λ m. omega (arith, count-insert stands used new m c 0 p x e))
             (λ m g. is-used k m g);
-        unused = λ m w l g.
-            away m w g (λ q. omega arith) (λ _ q. absurd (omega (arith, n-used))) (λ h q. absurd (omega (arith, p-used h)))
-            ∙ k .unused m w (omega arith) g;
         room = rw (length-linked, length-withWords) (omega arith);
         keys = λ m l. keys m l (ℕ-discrete m used);
       }

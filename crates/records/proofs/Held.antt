@@ -1,21 +1,19 @@
 -- Words that hold a forest of records: what they say of a node, and that they are as the functions ask.
 use mathlib.Core.Path.{_≡_, ap, subst}
 use mathlib.Core.Logic.{_≢_}
-use mathlib.Core.List.{List, []}
+use mathlib.Core.List.{List}
 use Prim.Native.Nat.{ℕ, _+_, _≤_, _<_}
 use native.Mathlib.Omega.{arith}
 use native.Mathlib.Decide.{decLt}
 use lib.ListN.{length}
 use Rattle.key.specs.Keys.{Key}
 use Rattle.records.specs.declared.store.Record.{Record}
-use Rattle.row.specs.Row.{kindWord, keyWord, keyLengthWord, childWord}
+use Rattle.row.specs.Row.{kindWord}
 use Rattle.row.specs.Words.{recordCount, word}
-use Rattle.records.specs.Records.{keyWordsAt, valueAt}
-use Rattle.records.specs.Keys.{InText}
+use Rattle.records.specs.Records.{valueAt}
 use Rattle.records.specs.Siblings.{children, position, Within, WellFormed}
 use Rattle.records.specs.Nodes.{Nodes, nil, node, count, Context, plug}
 use Rattle.records.specs.Holds.{Represents, Rising, Holds}
-use Rattle.records.proofs.Chains.{chain-end}
 use Rattle.records.proofs.Forests.{indicator-same, numbers, chain-numbers, numbers-size}
 use Rattle.records.proofs.Contexts.{countAround, count-plug, size-plug, rising-at, unplug, At, focus}
 use Rattle.records.proofs.Seeking.{seekNode, keyStands, seek-numbers}
@@ -75,10 +73,10 @@ module _ {ws text : List ℕ} {used : ℕ} (n : ℕ) (r : Record) (c s : Nodes) 
   children-few : length (children ws n) < recordCount ws
   children-few = rw children-are few
 
-  children-above : Within n (recordCount ws) (children ws n)
-  children-above = rw children-are (go c (λ m p. (node-rising .0 m p, omega (arith, in-node m (omega arith), k .room))))
+  children-above : Within n used (children ws n)
+  children-above = rw children-are (go c (λ m p. (node-rising .0 m p, in-node m (omega arith))))
     where
-      go : (f : Nodes) → ((m : ℕ) → 0 < count m f → (n < m) × (m < recordCount ws)) → Within n (recordCount ws) (numbers f)
+      go : (f : Nodes) → ((m : ℕ) → 0 < count m f → (n < m) × (m < used)) → Within n used (numbers f)
       go nil e = tt
       go (node m q d t) e = let i = e m (omega (arith, indicator-same m)) in (i .0, i .1, go t (λ j p. e j (omega arith)))
 
@@ -88,37 +86,22 @@ module _ {ws text : List ℕ} {used : ℕ} (n : ℕ) (r : Record) (c s : Nodes) 
 
 -- What the functions ask of the words.
 module _ {ws text : List ℕ} {used : ℕ} {f : Nodes} (k : Holds ws text used f) where
-  no-children : (n : ℕ) → used ≤ n → children ws n ≡ []
-  no-children n l = rw (k .unused n childWord l (omega arith)) (chain-end ws (recordCount ws))
-
-  no-key : (n : ℕ) → used ≤ n → InText text (keyWordsAt ws n)
-  unfolding keyWordsAt
-  no-key n l = λ _. omega (arith, k .unused n keyWord l (omega arith), k .unused n keyLengthWord l (omega arith))
-
   at : (n : ℕ) → n < used → At n f
   at n l = focus n f (omega (arith, k .once n l))
 
   there : (n : ℕ) (l : n < used) → Holds ws text used (plug (at n l .around) (node n (at n l .entry) (at n l .below) (at n l .behind)))
   there n l = subst (λ (t : Nodes). Holds ws text used t) (at n l .is) k
 
-  pub well-formed : WellFormed ws text
+  pub well-formed : WellFormed ws text used
   well-formed =
       record {
-        links = record { rising = λ n l. rising n (decLt n used); ends = λ n l. ends n l (decLt n used) };
-        keys = λ n l. keys n (decLt n used);
+        links = record {
+          room = k .room;
+          rising = λ n l. children-above n (at n l .entry) (at n l .below) (at n l .behind) (at n l .around) (there n l);
+          ends = λ n l. children-few n (at n l .entry) (at n l .below) (at n l .behind) (at n l .around) (there n l);
+        };
+        keys = k .keys;
       }
-    where
-      rising : (n : ℕ) → Dec (n < used) → Within n (recordCount ws) (children ws n)
-      rising n (yes u) = children-above n (at n u .entry) (at n u .below) (at n u .behind) (at n u .around) (there n u)
-      rising n (no u) = rw (no-children n (omega arith)) tt
-
-      ends : (n : ℕ) → n < recordCount ws → Dec (n < used) → length (children ws n) < recordCount ws
-      ends n l (yes u) = children-few n (at n u .entry) (at n u .below) (at n u .behind) (at n u .around) (there n u)
-      ends n l (no u) = rw (no-children n (omega arith)) (omega arith)
-
-      keys : (n : ℕ) → Dec (n < used) → InText text (keyWordsAt ws n)
-      keys n (yes u) = k .keys n u
-      keys n (no u) = no-key n (omega arith)
 
   -- Only the text's length matters.
   pub other-text : (text' : List ℕ) → length text' ≡ length text → Holds ws text' used f
@@ -129,7 +112,6 @@ module _ {ws text : List ℕ} {used : ℕ} {f : Nodes} (k : Holds ws text used f
         no-other = k .no-other;
         sized = k .sized;
         rising = k .rising;
-        unused = k .unused;
         room = k .room;
         keys = λ n l i. omega (arith, k .keys n l i);
       }

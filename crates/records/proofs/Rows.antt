@@ -55,7 +55,8 @@ pub three-written : (ws : List ℕ) (n : ℕ) (f g h : ℕ × ℕ) {w1 w2 w3 : L
 unfolding withWords
 three-written ws n f g h a b c = cc
 
-pub record-written : (ws : List ℕ) (n : ℕ) (r : Record) (next : ℕ) {w1 w2 w3 w4 : List ℕ} → w1 ≡ withValue ws n (r .value) → w2 ≡ withWords w1 n (keyFields (r .key))
+pub record-written : (ws : List ℕ) (n : ℕ) (r : Record) (next : ℕ) {w1 w2 w3 w4 : List ℕ}
+    → w1 ≡ withValue ws n (r .value) → w2 ≡ withWords w1 n (keyFields (r .key))
     → w3 ≡ withWord w2 n childWord 0 → w4 ≡ withWord w3 n nextWord next → w4 ≡ withRecord ws n r next
 unfolding withWords
 record-written ws n r next a b c d = cc

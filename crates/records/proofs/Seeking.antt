@@ -58,7 +58,8 @@ module _ (stands : Record → Ordering) where
       go Ordering·gt q ih = let f : Between prev m ≡ Between p x = rw q at e in inl (cc)
 
   module _ (u : ℕ) (new : Record) where
-    pub count-insert : (m : ℕ) (f : Nodes) (prev p x : ℕ) → seekNode stands prev f ≡ Between p x → count m (insertNode stands u new f) ≡ count m f + indicator m u
+    pub count-insert : (m : ℕ) (f : Nodes) (prev p x : ℕ)
+        → seekNode stands prev f ≡ Between p x → count m (insertNode stands u new f) ≡ count m f + indicator m u
     count-insert m nil prev p x e = omega arith
     count-insert m (node n r c s) prev p x e = go (stands r) refl (count-insert m s n p x)
       where
@@ -97,7 +98,9 @@ module _ (stands : Record → Ordering) where
               e' = rw q at e
 
               i : Inserted s m p
-              i = ih e' (k .2) (λ n. omega (arith, d n)) (omega (arith, d m, indicator-same m)) fresh (λ n w l g h. kept n w l (omega arith) h) (λ g. set (omega arith))
+              i =
+                  ih e' (k .2) (λ n. omega (arith, d n)) (omega (arith, d m, indicator-same m)) fresh
+                  (λ n w l g h. kept n w l (omega arith) h) (λ g. set (omega arith))
 
               -- p is m or a node behind it
               here : 0 < indicator p m + count p s

@@ -58,5 +58,7 @@ module _ {ws text : List ℕ} {used : ℕ} (n : ℕ) (r : Record) (s : Nodes) (a
       → Holds (sequenceOfTwo ws used n v) text (used + 2) (sequence (node used (unkeyed (r .value)) nil (node (used + 1) (unkeyed v) nil nil)))
   pair-holds l =
       let e : used + 1 + 1 ≡ used + 2 = omega arith in
-      subst (λ (old : Record). Holds (sequenceOfTwo ws used n v) text (used + 2) (sequence (node used (unkeyed (old .value)) nil (node (used + 1) (unkeyed v) nil nil))))
+      subst
+      (λ (old : Record). Holds (sequenceOfTwo ws used n v) text (used + 2)
+      (sequence (node used (unkeyed (old .value)) nil (node (used + 1) (unkeyed v) nil nil))))
       (node-represented n r nil s a k .0 .fixed) (rw e at (two l))

@@ -56,7 +56,6 @@ module _ {ws text : List ℕ} {used : ℕ} (n : ℕ) (r : Record) (c s : Nodes) 
         rising =
             rising-more used a (node n r c s) (node n (revalued r v) c s) (k .rising) (node-rising n r c s a k) (λ m. omega arith)
             (λ m g. is-used k m g);
-        unused = λ m w l g. value-far ws n v m w g (λ q. omega (arith, node-used n r c s a k)) ∙ k .unused m w l g;
         room = rw length-withWords (k .room);
         keys = λ m l. keys m l (ℕ-discrete m n);
       }

@@ -5,8 +5,8 @@ use mathlib.Core.Bool.{cond}
 use mathlib.Core.List.{List, []}
 use lib.Dec.{leb, eqb}
 use Rattle.key.specs.Keys.{str}
-use Rattle.records.specs.declared.adding.Appended.{Appended}
-use Rattle.records.specs.declared.adding.Appended.the-variants.{Used, TooFew}
+use Rattle.records.specs.declared.appending.Appended.{Appended}
+use Rattle.records.specs.declared.appending.Appended.the-variants.{Used, TooFew}
 use Rattle.records.specs.declared.siblings.Position.{Position}
 use Rattle.records.specs.declared.siblings.Position.the-variants.{Found, Between}
 use Rattle.records.specs.declared.store.ValueWords.{ValueWords}
@@ -22,8 +22,8 @@ pub record Change : Type 0 where
   pub answer : Appended
 
 -- The words ws and the answer r are as the change has them.
-abbrev pub Leaves : Change → List ℕ → Appended → Type 0
-Leaves change ws r = (ws ≡ change .words) × (r ≡ change .answer)
+abbrev pub Changed : Change → List ℕ → Appended → Type 0
+Changed change ws r = (ws ≡ change .words) × (r ≡ change .answer)
 
 -- "Space is checked just before each of these": the words changed so that `count` records are used, or too few and
 -- nothing changed.

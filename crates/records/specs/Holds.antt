@@ -1,9 +1,9 @@
 -- Document 01, 'Settings and the lent buffers': the words hold a forest of records, `used` of them, with keys in the
--- text. The store's invariant.
+-- text. The store's invariant. It speaks of the records used, and the words behind them are free.
 use Prim.Native.Nat.{ℕ, _<_, _≤_}
 use mathlib.Core.Path.{_≡_}
 use mathlib.Core.List.{List}
-use Rattle.row.specs.Row.{recordWidth, childWord, nextWord}
+use Rattle.row.specs.Row.{childWord, nextWord}
 use Rattle.records.specs.declared.store.Record.{Record}
 use Rattle.row.specs.Words.{recordCount, word}
 use Rattle.records.specs.Records.{keyWordsAt, recordAt}
@@ -38,7 +38,5 @@ pub record Holds (ws text : List ℕ) (used : ℕ) (f : Nodes) : Type 0 where
   -- which makes as many nodes
   pub sized : size f ≡ used
   pub rising : Rising f
-  -- "what an accepted reading doesn't use is zero"
-  pub unused : (m w : ℕ) → used ≤ m → w < recordWidth → word ws m w ≡ 0
   pub room : used ≤ recordCount ws
   pub keys : (n : ℕ) → n < used → InText text (keyWordsAt ws n)

@@ -6,16 +6,16 @@ use lib.Dec.{eqb}
 use Rattle.records.specs.declared.store.KeyWords.{KeyWords}
 use Rattle.records.specs.declared.store.ValueWords.{ValueWords}
 use Rattle.records.specs.declared.store.Record.{Record}
-use Rattle.row.specs.Row.{kindWord, keyKindWord, keyWord, keyLengthWord, textWord, textLengthWord, childWord, nextWord}
+use Rattle.row.specs.Row.{kindWord, keyKindWord, keyWord, keyLenWord, textWord, textLenWord, childWord, nextWord}
 use Rattle.row.specs.Words.{word, withWord}
 
 -- The key of record n.
 unfoldable pub keyWordsAt : List ℕ → ℕ → KeyWords
-keyWordsAt ws n = record { kind = word ws n keyKindWord; offset = word ws n keyWord; len = word ws n keyLengthWord }
+keyWordsAt ws n = record { kind = word ws n keyKindWord; offset = word ws n keyWord; len = word ws n keyLenWord }
 
 -- The value of record n, without its children.
 unfoldable pub valueAt : List ℕ → ℕ → ValueWords
-valueAt ws n = record { kind = word ws n kindWord; offset = word ws n textWord; len = word ws n textLengthWord }
+valueAt ws n = record { kind = word ws n kindWord; offset = word ws n textWord; len = word ws n textLenWord }
 
 -- Record n, without its links.
 abbrev pub recordAt : List ℕ → ℕ → Record
@@ -24,10 +24,10 @@ recordAt ws n = record { key = keyWordsAt ws n; value = valueAt ws n }
 -- The words that a key, a value, and a record with no child yet and a next sibling are written to: the number of each,
 -- and what it becomes.
 abbrev pub keyFields : KeyWords → List (ℕ × ℕ)
-keyFields k = (keyKindWord, k .kind) ∷ (keyWord, k .offset) ∷ (keyLengthWord, k .len) ∷ []
+keyFields k = (keyKindWord, k .kind) ∷ (keyWord, k .offset) ∷ (keyLenWord, k .len) ∷ []
 
 abbrev pub valueFields : ValueWords → List (ℕ × ℕ)
-valueFields v = (kindWord, v .kind) ∷ (textWord, v .offset) ∷ (textLengthWord, v .len) ∷ []
+valueFields v = (kindWord, v .kind) ∷ (textWord, v .offset) ∷ (textLenWord, v .len) ∷ []
 
 abbrev pub recordFields : Record → ℕ → List (ℕ × ℕ)
 recordFields r next = valueFields (r .value) ++ (keyFields (r .key) ++ ((childWord, 0) ∷ (nextWord, next) ∷ []))

@@ -1,5 +1,5 @@
 -- Lists of siblings, and the position of a key in one.
-use Prim.Native.Nat.{ℕ, zero, suc, _<_, Ordering}
+use Prim.Native.Nat.{ℕ, zero, suc, _<_, _≤_, Ordering}
 use mathlib.Core.List.{List, [], _∷_}
 use lib.ListN.{length}
 use Rattle.key.specs.Keys.{Key}
@@ -45,17 +45,24 @@ abbrev pub Within : ℕ → ℕ → List ℕ → Type 0
 Within lo hi [] = Unit {0}
 Within lo hi (m ∷ ms) = (lo < m) × (m < hi) × Within lo hi ms
 
--- The siblings from record n on are records, and they end.
-abbrev pub Ends : List ℕ → ℕ → Type 0
-Ends ws n = Within 0 (recordCount ws) (chain ws (recordCount ws) n)
-    × (length (chain ws (recordCount ws) n) < recordCount ws)
+-- The siblings from record n on are among the records used, and they end.
+pub record ChainEnds (ws : List ℕ) (used n : ℕ) : Type 0 where
+  pub within : Within 0 used (chain ws (recordCount ws) n)
+  pub few : length (chain ws (recordCount ws) n) < recordCount ws
 
--- "every child has a greater number than its parent", and each list of children ends.
-pub record Linked (ws : List ℕ) : Type 0 where
-  pub rising : (n : ℕ) → n < recordCount ws → Within n (recordCount ws) (children ws n)
-  pub ends : (n : ℕ) → n < recordCount ws → length (children ws n) < recordCount ws
+-- Of the records used: "every child has a greater number than its parent", and each list of children ends. Nothing is
+-- said of the other words.
+pub record Linked (ws : List ℕ) (used : ℕ) : Type 0 where
+  pub room : used ≤ recordCount ws
+  pub rising : (n : ℕ) → n < used → Within n used (children ws n)
+  pub ends : (n : ℕ) → n < used → length (children ws n) < recordCount ws
 
 -- Besides, keys lie in the text. Words that hold a forest of records are so (proofs/Held).
-pub record WellFormed (ws text : List ℕ) : Type 0 where
-  pub links : Linked ws
-  pub keys : (n : ℕ) → n < recordCount ws → InText text (keyWordsAt ws n)
+pub record WellFormed (ws text : List ℕ) (used : ℕ) : Type 0 where
+  pub links : Linked ws used
+  pub keys : (n : ℕ) → n < used → InText text (keyWordsAt ws n)
+
+-- P holds of some count of records used, which isn't handed to every function.
+pub record ForSome (P : ℕ → Type 0) : Type 0 where
+  pub used : ℕ
+  pub holds : P used

@@ -4,7 +4,7 @@
 // Each function equals a total function on the list of words (specs/). That the words hold a forest of records is
 // specs/Holds, which proofs/ carry over each of those functions.
 // Below it stand a record's row (row), decoding (decode), the keys and their order (key), and laws.
-pub mod adding; // a value added at a record
+pub mod appending; // a value added at a record
 pub mod keys; // keys compared
 pub mod siblings; // lists of siblings: a child found, a child put in
 pub mod store; // a record's key and value

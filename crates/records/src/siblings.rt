@@ -2,15 +2,15 @@
 ghost use mathlib.Core.Path.{_≡_};
 ghost use Prim.Native.Nat.{_<_};
 ghost use Rattle.row.specs.Words.{recordCount};
-ghost use Rattle.records.specs.Keys.{meantKey};
+ghost use Rattle.records.specs.Keys.{soughtKey};
 ghost use Rattle.records.specs.Siblings.{chain, children, standing, seek, position, lastOf};
-ghost use Rattle.records.specs.Siblings.{Ends, Linked, WellFormed};
+ghost use Rattle.records.specs.Siblings.{ChainEnds, Linked, WellFormed, ForSome};
 ghost use Rattle.records.specs.Records.{linked, inserted};
 use crate::keys;
 use crate::keys::Ordering;
-use crate::keys::RawKey;
 use crate::store;
 use crate::store::Record;
+use key::KeyKind;
 
 // Where a key stands among the children of a map: at a child, or between two, 0 standing for none.
 pub enum Position {
@@ -19,15 +19,24 @@ pub enum Position {
 }
 
 // The position of a key among the siblings from `first` on, of which `before` is the one before the first.
-fn walk(words: &[u32], text: &[u8], before: u32, first: u32, key: RawKey, raw: &[u8]) -> Position
-    requires { ⌜ WellFormed (now words) (now text) ⌝ ∗ ⌜ Ends (now words) first ⌝ }
-    ensures { λ r. ⌜ r ≡ seek (standing (now (words .entry)) (now (text .entry)) (meantKey key (now (raw .entry))))
+fn walk(
+    words: &[u32],
+    text: &[u8],
+    before: u32,
+    first: u32,
+    key: KeyKind,
+    bytes: &[u8],
+    escaped: bool,
+) -> Position
+    requires { ⌜ ForSome (λ used. WellFormed (now words) (now text) used × ChainEnds (now words) used first) ⌝ }
+    ensures { λ r. ⌜ r ≡ seek (standing (now (words .entry)) (now (text .entry))
+        (soughtKey key escaped (now (bytes .entry))))
         before (chain (now (words .entry)) (recordCount (now (words .entry))) first) ⌝ }
 {
     let mut prev = before;
     let mut cur = first;
     while cur != 0 {
-        match keys::compare_key(words, text, cur, key, raw) {
+        match keys::compare_key(words, text, cur, key, bytes, escaped) {
             Ordering::Less => {
                 prev = cur;
                 cur = row::get_word(words, cur, row::NEXT);
@@ -43,18 +52,27 @@ fn walk(words: &[u32], text: &[u8], before: u32, first: u32, key: RawKey, raw: &
     Position::Between(prev, 0)
 }
 
-// The position of a key among the children of a record.
-pub fn find(words: &[u32], text: &[u8], parent: u32, key: RawKey, raw: &[u8]) -> Position
-    requires { ⌜ WellFormed (now words) (now text) ⌝ ∗ ⌜ parent < recordCount (now words) ⌝ }
-    ensures { λ r. ⌜ r ≡ position (now (words .entry)) (now (text .entry)) (meantKey key (now (raw .entry))) parent ⌝ }
+// The position of a key among the children of a record. Beside a String key stand its bytes, which are to be decoded
+// on the way where they are escaped.
+pub fn find(
+    words: &[u32],
+    text: &[u8],
+    parent: u32,
+    key: KeyKind,
+    bytes: &[u8],
+    escaped: bool,
+) -> Position
+    requires { ⌜ ForSome (λ used. WellFormed (now words) (now text) used × (parent < used)) ⌝ }
+    ensures { λ r. ⌜ r ≡ position (now (words .entry)) (now (text .entry))
+        (soughtKey key escaped (now (bytes .entry))) parent ⌝ }
 {
     let first = row::get_word(words, parent, row::CHILD);
-    walk(words, text, 0, first, key, raw)
+    walk(words, text, 0, first, key, bytes, escaped)
 }
 
 // The last child of a record, or 0.
 pub fn last_child(words: &[u32], parent: u32) -> u32
-    requires { ⌜ Linked (now words) ⌝ ∗ ⌜ parent < recordCount (now words) ⌝ }
+    requires { ⌜ ForSome (λ used. Linked (now words) used × (parent < used)) ⌝ }
     ensures { λ r. ⌜ r ≡ lastOf 0 (children (now (words .entry)) parent) ⌝ }
 {
     let mut prev = 0;

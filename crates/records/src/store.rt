@@ -57,7 +57,7 @@ fn set_key(words: &mut [u32], n: u32, key: KeyWords)
 }
 
 // Writes record n, which has no children yet. The other records stay.
-pub(crate) fn write_record(words: &mut [u32], n: u32, new: Record, next: u32)
+pub fn write_record(words: &mut [u32], n: u32, new: Record, next: u32)
     requires { ⌜ n < recordCount (now words) ⌝ }
     ensures { λ _. ⌜ now (words .exit) ≡ withRecord (now (words .entry)) n new next ⌝ }
 {

@@ -2,8 +2,10 @@
 use mathlib.Core.Path.{_≡_}
 use native.Mathlib.Omega.{arith}
 use Rattle.refusals.specs.declared.Refusal.{Refusal}
-use Rattle.refusals.specs.declared.Refusal.the-variants.{TooDeep, TooLong, NoRecord, EndAfterOpening, EndBeforeClosing, SequenceOnMap, SequenceOnSingle, MapOnSequence}
-use Rattle.refusals.specs.declared.Refusal.the-variants.{MapOnString, MapOnNull, ByteAfterKey, OpeningAfterBrackets, ByteAfterBrackets, TooFewRecords, TooLittleText}
+use Rattle.refusals.specs.declared.Refusal.the-variants.{TooDeep, TooLong, NoRecord, EndAfterOpening}
+use Rattle.refusals.specs.declared.Refusal.the-variants.{EndBeforeClosing, SequenceOnMap, SequenceOnSingle, MapOnSequence}
+use Rattle.refusals.specs.declared.Refusal.the-variants.{MapOnString, MapOnNull, ByteAfterKey, OpeningAfterBrackets}
+use Rattle.refusals.specs.declared.Refusal.the-variants.{ByteAfterBrackets, TooFewRecords, TooLittleText}
 use Rattle.refusals.specs.declared.Refusal.the-variants.{WrongRoot, NoSuchField, WrongKind, SeveralValues, MissingIndex, NotUtf8, ShortSlice}
 use Rattle.refusals.specs.Codes.{code}
 

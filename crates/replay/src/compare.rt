@@ -7,7 +7,7 @@ use reading::Reading;
 const BEFORE: u8 = 7;
 
 // Sets every word to what it holds before a reading.
-pub(crate) fn fill_words(words: &mut [u32]) {
+fn fill_words(words: &mut [u32]) {
     let mut i = 0;
     while i < words.len() {
         words[i] = BEFORE as u32;
@@ -16,7 +16,7 @@ pub(crate) fn fill_words(words: &mut [u32]) {
 }
 
 // Sets every byte of the text to what it holds before a reading.
-pub(crate) fn fill_text(text: &mut [u8]) {
+fn fill_text(text: &mut [u8]) {
     let mut i = 0;
     while i < text.len() {
         text[i] = BEFORE;
@@ -24,8 +24,14 @@ pub(crate) fn fill_text(text: &mut [u8]) {
     }
 }
 
+// Sets every word and every byte of the text to what it holds before a reading.
+pub(crate) fn fill(words: &mut [u32], text: &mut [u8]) {
+    fill_words(words);
+    fill_text(text);
+}
+
 // Whether a reading answers what the case has to: number, place, records and bytes of text.
-pub(crate) fn answers(case: Case, answer: Reading) -> bool {
+fn answers(case: Case, answer: Reading) -> bool {
     let expected = case.answer;
     if expected.number != answer.number {
         return false;
@@ -128,7 +134,7 @@ fn untouched(words: &[u32], text: &[u8]) -> bool {
 
 // Whether words and text are as the case has to leave them: as before under numbers 1 to 3, else the used ones, which
 // `left` holds, and zeros.
-pub(crate) fn leaves(case: Case, left: &[u8], words: &[u32], text: &[u8]) -> bool {
+fn leaves(case: Case, left: &[u8], words: &[u32], text: &[u8]) -> bool {
     let answer = case.answer;
     let number = answer.number;
     match number {
@@ -141,4 +147,18 @@ pub(crate) fn leaves(case: Case, left: &[u8], words: &[u32], text: &[u8]) -> boo
             leaves_text(answer.bytes as usize, left, stored::RECORD * records, text)
         }
     }
+}
+
+// Whether a reading answers what the case has to, and leaves words and text so.
+pub(crate) fn as_stored(
+    case: Case,
+    answer: Reading,
+    left: &[u8],
+    words: &[u32],
+    text: &[u8],
+) -> bool {
+    if !answers(case, answer) {
+        return false;
+    }
+    leaves(case, left, words, text)
 }

@@ -1,6 +1,7 @@
 // The stored cases, as FORMAT.md lays them out.
 ghost use Prim.Native.Nat.{_+_, _≤_};
 ghost use lib.ListN.{length};
+use config::Config;
 use libc::STDIN_FILENO;
 use reading::Reading;
 
@@ -46,6 +47,11 @@ pub(crate) fn case_of(front: &[u8; 36]) -> Case {
             bytes: number_at(front, 32),
         },
     }
+}
+
+// The settings of a case.
+pub(crate) fn config_of(case: Case) -> Config {
+    Config::with(case.depth as usize, case.form == 1)
 }
 
 // How many bytes hold a record: four a word.

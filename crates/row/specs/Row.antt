@@ -19,15 +19,15 @@ abbrev pub keyWord : ℕ
 keyWord = 2
 
 -- "3 key length (0 for Int)"
-abbrev pub keyLengthWord : ℕ
-keyLengthWord = 3
+abbrev pub keyLenWord : ℕ
+keyLenWord = 3
 
 -- "4, 5 value's text offset and length"
 abbrev pub textWord : ℕ
 textWord = 4
 
-abbrev pub textLengthWord : ℕ
-textLengthWord = 5
+abbrev pub textLenWord : ℕ
+textLenWord = 5
 
 -- "6 first child's record number, 7 next sibling's, 0 for none"
 abbrev pub childWord : ℕ

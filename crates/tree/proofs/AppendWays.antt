@@ -3,20 +3,20 @@ use mathlib.Core.Path.{_≡_, refl, ap, sym, _∙_, subst}
 use mathlib.Core.List.{List, _++_, append-assoc}
 use Prim.Native.Nat.{ℕ, _+_, _-_, _<_, _≤_}
 use native.Mathlib.Omega.{arith}
-use lib.ListN.{length, replicate, length-append}
+use lib.ListN.{length, drop, length-append}
 use Rattle.key.specs.Keys.{Key}
 use Rattle.decode.specs.declared.Decoded.{Decoded}
 use Rattle.decode.specs.declared.Decoded.the-variants.{Yes, No}
-use Rattle.records.specs.declared.adding.Appended.{Appended}
-use Rattle.records.specs.declared.adding.Appended.the-variants.{Used, TooFew}
+use Rattle.records.specs.declared.appending.Appended.{Appended}
+use Rattle.records.specs.declared.appending.Appended.the-variants.{Used, TooFew}
 use Rattle.records.specs.declared.store.ValueWords.{ValueWords}
 use Rattle.row.specs.Words.{recordCount}
-use Rattle.records.specs.Adding.{Change, Leaves, appended}
+use Rattle.records.specs.Adding.{Change, Changed, appended}
 use Rattle.records.specs.Nodes.{Nodes, node, plug}
 use Rattle.records.specs.Holds.{Holds}
 use Rattle.records.proofs.Held.{other-text}
 use Rattle.reading.specs.Values.{Node}
-use Rattle.reading.specs.Leaves.{Leaf}
+use Rattle.reading.specs.Leaves.{Leaf, leafOf}
 use Rattle.refusals.specs.declared.Refusal.the-variants.{TooFewRecords, TooLittleText}
 use Rattle.reading.specs.Charging.{Lent, Environment, Made, over}
 use Rattle.reading.specs.Charging
@@ -29,16 +29,16 @@ use Rattle.reading.proofs.Shaped.{append-at-shaped}
 use Rattle.tree.specs.declared.Here.{Here}
 use Rattle.tree.specs.declared.Performed.{Performed}
 use Rattle.tree.specs.declared.Performed.the-variants.{Made as MadeHere, Refused}
-use Rattle.tree.specs.declared.adding.LeafKind.{LeafKind}
-use Rattle.tree.specs.declared.adding.LeafKind.the-variants.{Null, NoValue, String}
+use Rattle.reading.specs.declared.LeafKind.{LeafKind}
+use Rattle.reading.specs.declared.LeafKind.the-variants.{Null, NoValue, String}
 use Rattle.tree.specs.Nodes.{valueWords, recordOf, below, rooted}
-use Rattle.tree.specs.Leaves.{leafOf, newValueWords}
+use Rattle.tree.specs.NewValues.{newValueWords}
 use Rattle.tree.specs.Laying.{layAnswer, laid}
-use Rattle.tree.specs.Stored.{Leads, put, usedBy, Stands}
-use Rattle.tree.specs.Commands.{After, stood, stopped, Does, along, appends, stays}
+use Rattle.tree.specs.Stored.{Leads, put, usedBy, StoredAt}
+use Rattle.tree.specs.Commands.{After, stood, stopped, Performs, along, appends, stays}
 use Rattle.tree.proofs.Lays.{lay-yes, lay-no, laid-short, laid-full, length-laid}
 use Rattle.tree.proofs.Paths.{changed}
-use Rattle.tree.proofs.Standing.{same-lent, at-node, at-text, at-end}
+use Rattle.tree.proofs.StoredTrees.{same-lent, at-node, at-text, at-end}
 use Rattle.tree.proofs.Appends.{RowKept, rowKept, appends-keep, Agree, good, few, little, agree}
 
 leaf-words : (kind : LeafKind) (raw : List ℕ) (o : ℕ) → valueWords (valueAt (leafOf kind raw) o) ≡ newValueWords kind o (length (leafText (leafOf kind raw)))
@@ -50,7 +50,7 @@ leaf-words String raw o = refl
 used-or-few : {A : Type 0} {u : ℕ} → Used u ≡ TooFew → A
 used-or-few e = absurd (let z : _≡_ {A = ℕ} 0 1 = cc in omega arith)
 
-module _ {env : Environment} {ws text : List ℕ} {here : Here} {p : List Key} {v : Node} {t : List ℕ} (s : Stands env ws text here p v t) (x : Leaf)
+module _ {env : Environment} {ws text : List ℕ} {here : Here} {p : List Key} {v : Node} {t : List ℕ} (s : StoredAt env ws text here p v t) (x : Leaf)
     (text' zs : List ℕ) (full : text' ≡ t ++ zs) (long : length text' ≡ length text) (c : ValueWords) where
   abbrev i : Leads p v (here .node)
   i = s .leads
@@ -73,7 +73,7 @@ module _ {env : Environment} {ws text : List ℕ} {here : Here} {p : List Key} {
   rule-is : along p (appendValue env x) v before ≡ over (i .back) (appendValue env x (i .row) (i .value) before)
   rule-is = ap (λ (y : Node). along p (appendValue env x) y before) (i .whole) ∙ i .does (i .value) (appendValue env x) before
 
-  module _ {ws' : List ℕ} {a : Appended} (is : Leaves change ws' a) where
+  module _ {ws' : List ℕ} {a : Appended} (is : Changed change ws' a) where
     abbrev Goal : Performed → Type 0
     Goal r = After env ws' text' p r (along p (appendValue env x) v (usedBy here t))
 
@@ -103,9 +103,9 @@ module _ {env : Environment} {ws text : List ℕ} {here : Here} {p : List Key} {
 
     -- Enough of both.
     pub added : {u : ℕ} → a ≡ Used u → length ws' ≡ length ws → valueWords (valueAt x (length t)) ≡ c
-        → text' ≡ (t ++ leafText x) ++ replicate (length text' - length (t ++ leafText x)) 0 → here .bytes + length (leafText x) ≤ length text
+        → (free : List ℕ) → text' ≡ (t ++ leafText x) ++ free → here .bytes + length (leafText x) ≤ length text
         → Goal (MadeHere (record { records = u; bytes = here .bytes + length (leafText x); node = here .node }))
-    added {u} q lw fits full' l =
+    added {u} q lw fits free full' l =
         to
         (go agreed (appends-keep env x (i .row) (i .value) before)
         (subst (λ (m : Made Node). Each (Adds v before) m) rule-is (append-at-adds env p x (v .row) (v .value) before))
@@ -129,6 +129,7 @@ module _ {env : Environment} {ws text : List ℕ} {here : Here} {p : List Key} {
                         (subst (λ (y : Nodes). Holds (change .words) text' n y) (sym (i .is w)) (h fits)));
                     texts = e .texts (s .stores .texts);
                     shaped = o;
+                    free = free;
                     full = full';
                     fill = filled;
                   };
@@ -140,14 +141,14 @@ module _ {env : Environment} {ws text : List ℕ} {here : Here} {p : List Key} {
 -- The code's four ways, by its own facts.
 module _ (ws text : List ℕ) (here : Here) (kind : LeafKind) (value : List ℕ) {ws' text' : List ℕ} {d : Decoded} (c : ValueWords) {a : Appended}
     (e : d ≡ layAnswer text (here .bytes) (leafText (leafOf kind value))) (et : text' ≡ laid text (here .bytes) (leafText (leafOf kind value)))
-    (does : (fuel : ℕ) → recordCount ws - here .node ≤ fuel → Leaves (appended fuel ws text' (here .records) (here .node) c) ws' a) where
+    (does : (fuel : ℕ) → recordCount ws - here .node ≤ fuel → Changed (appended fuel ws text' (here .records) (here .node) c) ws' a) where
   abbrev x : Leaf
   x = leafOf kind value
 
   abbrev Promise : Performed → Type 0
-  Promise r = Does ws text ws' text' here (appends (leafOf kind value)) stays r
+  Promise r = Performs ws text ws' text' here (appends (leafOf kind value)) stays r
 
-  is : Leaves (appended (recordCount ws) ws text' (here .records) (here .node) c) ws' a
+  is : Changed (appended (recordCount ws) ws text' (here .records) (here .node) c) ws' a
   is = does (recordCount ws) (omega arith)
 
   -- The value's text is laid.
@@ -158,12 +159,16 @@ module _ (ws text : List ℕ) (here : Here) (kind : LeafKind) (value : List ℕ)
     fits : here .bytes + length (leafText x) ≤ length text
     fits = lay-yes text (here .bytes) (leafText x) e q .1
 
-    module _ {env : Environment} {p : List Key} {v : Node} {t : List ℕ} (s : Stands env ws text here p v t) where
-      whole : text' ≡ (t ++ leafText x) ++ replicate (length text' - length (t ++ leafText x)) 0
-      whole = rw et (laid-full text t (leafText x) (here .bytes) (s .stores .full) (s .stores .fill) fits)
+    -- The text that is free then.
+    abbrev left : List ℕ
+    left = drop (here .bytes + length (leafText x)) text
 
-      split : text' ≡ t ++ (leafText x ++ replicate (length text' - length (t ++ leafText x)) 0)
-      split = whole ∙ append-assoc t (leafText x) (replicate (length text' - length (t ++ leafText x)) 0)
+    module _ {env : Environment} {p : List Key} {v : Node} {t : List ℕ} (s : StoredAt env ws text here p v t) where
+      whole : text' ≡ (t ++ leafText x) ++ left
+      whole = et ∙ laid-full t (s .stores .free) (leafText x) (s .stores .full) (s .stores .fill) fits
+
+      split : text' ≡ t ++ (leafText x ++ left)
+      split = whole ∙ append-assoc t (leafText x) left
 
       long : length text' ≡ length text
       long = ap length et ∙ length-laid text (here .bytes) (leafText x) (at-end s)
@@ -179,11 +184,10 @@ module _ (ws text : List ℕ) (here : Here) (kind : LeafKind) (value : List ℕ)
         (λ (n : ℕ).
         After env ws' text' p (MadeHere (record { records = u; bytes = here .bytes + n; node = here .node })) (along p (appendValue env x) v (usedBy here t)))
         (sym len-is)
-        (added s x text' (leafText x ++ replicate (length text' - length (t ++ leafText x)) 0) (split s) (long s) c is z lw (words-are s) (whole s) fits)
+        (added s x text' (leafText x ++ left) (split s) (long s) c is z lw (words-are s) left (whole s) fits)
 
     pub append-few : a ≡ TooFew → Promise (Refused TooFewRecords)
-    append-few z env p v t s =
-        few-left s x text' (leafText x ++ replicate (length text' - length (t ++ leafText x)) 0) (split s) (long s) c is z
+    append-few z env p v t s = few-left s x text' (leafText x ++ left) (split s) (long s) c is z
 
   -- It doesn't fit.
   module _ (q : d ≡ No) where
@@ -195,7 +199,7 @@ module _ (ws text : List ℕ) (here : Here) (kind : LeafKind) (value : List ℕ)
 
     pub unfit-little : {u : ℕ} → a ≡ Used u → Promise (Refused TooLittleText)
     unfit-little z env p v t s =
-        little-left s x text' (replicate (length text - length t) 0) (same ∙ s .stores .full) (ap length same) c is z over-full
+        little-left s x text' (s .stores .free) (same ∙ s .stores .full) (ap length same) c is z over-full
 
     pub unfit-few : a ≡ TooFew → Promise (Refused TooFewRecords)
-    unfit-few z env p v t s = few-left s x text' (replicate (length text - length t) 0) (same ∙ s .stores .full) (ap length same) c is z
+    unfit-few z env p v t s = few-left s x text' (s .stores .free) (same ∙ s .stores .full) (ap length same) c is z

@@ -10,14 +10,15 @@ use lib.Dec.{ltb}
 use borrow.Author.Tests.{lt-ltb, le-ltb, le-leb, lt-leb}
 use Rattle.laws.proofs.Cases.{by-test}
 use Rattle.key.specs.Keys.{str}
-use Rattle.records.specs.declared.adding.Appended.the-variants.{Used, TooFew}
+use Rattle.records.specs.declared.appending.Appended.the-variants.{Used, TooFew}
 use Rattle.records.specs.declared.siblings.Position.{Position}
 use Rattle.records.specs.declared.siblings.Position.the-variants.{Found, Between}
 use Rattle.records.specs.declared.store.ValueWords.{ValueWords}
 use Rattle.row.specs.Words.{recordCount}
 use Rattle.records.specs.Records.{withValue, inserted}
 use Rattle.records.specs.Siblings.{position, children, lastOf}
-use Rattle.records.specs.Adding.{Change, ifRoom, unkeyed as elementOf, emptyKeyed, sequenceOfTwo, pushed, paired, appendedHere, childAdded, atPosition, appended}
+use Rattle.records.specs.Adding.{Change, ifRoom, unkeyed as elementOf, emptyKeyed, sequenceOfTwo, pushed, paired}
+use Rattle.records.specs.Adding.{appendedHere, childAdded, atPosition, appended}
 use Rattle.records.specs.Nodes.{Nodes, nil, node, Context, plug}
 use Rattle.records.specs.Holds.{Holds}
 use Rattle.records.proofs.Forests.{indicator-same}
@@ -40,7 +41,8 @@ use Rattle.reading.proofs.Changes.{element, two as pairOf}
 use Rattle.tree.specs.Nodes.{valueWords, recordOf, below, nodes}
 use Rattle.tree.proofs.Entries.{over-over, Occupied, Vacant, occupied, vacant, turns, insert-last}
 
-pub over-charge : {A B : Type 0} (g : A → B) (E : Environment) (k : ℕ) (x : List ℕ) (a : A) (u : Charging.Used) → over g (charge E k x a u) ≡ charge E k x (g a) u
+pub over-charge : {A B : Type 0} (g : A → B) (E : Environment) (k : ℕ) (x : List ℕ) (a : A) (u : Charging.Used)
+    → over g (charge E k x a u) ≡ charge E k x (g a) u
 over-charge g E k x a u = go (ltb (E .lent .records) (u .records + k)) (ltb (E .lent .bytes) (length (u .text) + length x))
   where
     go : (p q : Bool) → over g (cond p (refused TooFewRecords) (cond q (refused TooLittleText) (made a (more u k x))))
@@ -117,7 +119,8 @@ module _ (ws text : List ℕ) (used : ℕ) (E : Environment) (x : Leaf) (t zs : 
       go : Dec (E .lent .records < used + k) → Dec (E .lent .bytes < length t + length (leafText x)) → Agrees o T (charge E k (leafText x) w before)
       go (yes l) d = rw (lt-ltb (E .lent .records) (used + k) l) (few (short (omega arith)))
       go (no l) (yes g) =
-          rw (le-ltb (E .lent .records) (used + k) (omega arith), lt-ltb (E .lent .bytes) (length t + length (leafText x)) g) (little g (enough (omega arith) .0))
+          rw (le-ltb (E .lent .records) (used + k) (omega arith), lt-ltb (E .lent .bytes) (length t + length (leafText x)) g)
+          (little g (enough (omega arith) .0))
       go (no l) (no g) =
           rw (le-ltb (E .lent .records) (used + k) (omega arith), le-ltb (E .lent .bytes) (length t + length (leafText x)) (omega arith))
           (good (omega arith) (enough (omega arith) .0) (enough (omega arith) .1))
@@ -139,7 +142,8 @@ module _ (ws text : List ℕ) (used : ℕ) (E : Environment) (x : Leaf) (t zs : 
     T y = plug a (node n (recordOf (y .row) (y .value)) (below (y .value)) s)
 
     -- A single value becomes a Sequence of two.
-    two : (w : Value) → below w ≡ nil → Holds ws text used (T (at l w)) → Agrees (paired ws used n c) T (charge E 2 (leafText x) (sequenceAt l (pairOf x w before)) before)
+    two : (w : Value) → below w ≡ nil → Holds ws text used (T (at l w))
+        → Agrees (paired ws used n c) T (charge E 2 (leafText x) (sequenceAt l (pairOf x w before)) before)
     unfolding paired
     two w z k =
         by-room 2 (sequenceOfTwo ws used n c) T (sequenceAt l (pairOf x w before))
@@ -147,13 +151,17 @@ module _ (ws text : List ℕ) (used : ℕ) (E : Environment) (x : Leaf) (t zs : 
         (pair-holds n (recordOf l w) s a (subst (λ (q : Nodes). Holds ws text used (plug a (node n (recordOf l w) q s))) z k) c (omega arith)))
 
     -- A Sequence gets it last.
-    last-one : (cs : Forest) → Holds ws text used (T (sequenceAt l cs)) → Agrees (pushed ws used n c) T (charge E 1 (leafText x) (sequenceAt l (snoc cs (element x before))) before)
+    last-one : (cs : Forest) → Holds ws text used (T (sequenceAt l cs))
+        → Agrees (pushed ws used n c) T (charge E 1 (leafText x) (sequenceAt l (snoc cs (element x before))) before)
     unfolding pushed
     last-one cs k =
         by-room 1 (inserted ws used n (lastOf 0 (children ws n)) 0 (elementOf c)) T (sequenceAt l (snoc cs (element x before)))
         (λ f m.
-        subst (λ (q : Nodes). Holds (inserted ws used n (lastOf 0 (children ws n)) 0 (elementOf c)) text (used + 1) (plug a (node n (recordOf l (sequence cs)) q s)))
-        (ap (λ (y : ValueWords). insertNode behindAll used (elementOf y) (nodes cs)) (sym m) ∙ insert-last used (valueAt x (length t)) cs (leaf-below x (length t)))
+        subst
+        (λ (q : Nodes). Holds (inserted ws used n (lastOf 0 (children ws n)) 0 (elementOf c)) text (used + 1)
+        (plug a (node n (recordOf l (sequence cs)) q s)))
+        (ap (λ (y : ValueWords). insertNode behindAll used (elementOf y) (nodes cs)) (sym m)
+        ∙ insert-last used (valueAt x (length t)) cs (leaf-below x (length t)))
         (push-holds n (recordOf l (sequence cs)) (nodes cs) s a k c (omega arith)))
 
     -- Uninitialized becomes it.
@@ -188,7 +196,8 @@ module _ (ws text : List ℕ) (used : ℕ) (E : Environment) (x : Leaf) (t zs : 
             let none-more : length t + 0 ≡ length t = omega arith in
             ap (over (mapAt l)) (append-at-entry E x cs before ∙ g .does (appendValue E x) (insertNew E (str []) x) before)
             ∙ over-over (g .back) (mapAt l) (insertNew E (str []) x (g .later) before)
-            ∙ over-charge (λ (d : Forest). mapAt l (g .back d)) E 1 (leafText x) (child used (rowAt (str []) (length t)) (valueAt x (length t + 0)) (g .later)) before
+            ∙ over-charge (λ (d : Forest). mapAt l (g .back d)) E 1 (leafText x)
+            (child used (rowAt (str []) (length t)) (valueAt x (length t + 0)) (g .later)) before
             ∙ ap (λ (i : ℕ). charge E 1 (leafText x) (mapAt l (g .back (child used (rowAt (str []) (length t)) (valueAt x i) (g .later)))) before) none-more
 
   module _ (f : ℕ) where
@@ -197,7 +206,8 @@ module _ (ws text : List ℕ) (used : ℕ) (E : Environment) (x : Leaf) (t zs : 
         → Agrees (appended f ws text used n c) (T n l a s) (appendValue E x l w before)
 
     -- The child with the empty key, by the same rule.
-    again : (cs : Forest) (n : ℕ) (l : Row) (a : Context) (s : Nodes) (m : ℕ) → Holds ws text used (T n l a s (mapAt l cs)) → LaidAll t cs → recordCount ws - n ≤ suc f
+    again : (cs : Forest) (n : ℕ) (l : Row) (a : Context) (s : Nodes) (m : ℕ)
+        → Holds ws text used (T n l a s (mapAt l cs)) → LaidAll t cs → recordCount ws - n ≤ suc f
         → Occupied (str []) cs m → Holding → Agrees (appended f ws text used m c) (T n l a s) (over (mapAt l) (appendEmptyKey E x cs before))
     again cs n l a s m k tx lo h ih =
         subst (λ (q : Made Node). Agrees (appended f ws text used m c) (T n l a s) q) (sym eq)

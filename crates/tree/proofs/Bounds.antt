@@ -1,38 +1,40 @@
 -- What a command adds at most: two records, and no more text than the raw bytes that it is handed.
-use mathlib.Core.Path.{_≡_, subst}
-use mathlib.Core.List.{List}
+use mathlib.Core.Path.{_≡_, refl, subst}
+use mathlib.Core.List.{List, _++_}
 use Prim.Native.Nat.{ℕ, _+_, _≤_}
 use native.Mathlib.Omega.{arith}
 use lib.ListN.{length, length-append}
 use Rattle.key.specs.Keys.{Key}
 use Rattle.decode.specs.declared.Decoded.{Decoded}
-use Rattle.decode.specs.declared.Decoded.the-variants.{Yes}
+use Rattle.decode.specs.declared.Decoded.the-variants.{Yes, No}
+use Rattle.decode.specs.Shown.{lengthOf}
 use Rattle.decode.proofs.Loops.{decoded-le}
-use Rattle.records.specs.declared.keys.RawKey.{RawKey}
-use Rattle.records.specs.declared.keys.RawKey.the-variants.{Int, String as StringKey}
+use Rattle.key.specs.declared.KeyKind.{KeyKind}
+use Rattle.key.specs.declared.KeyKind.the-variants.{None, Int, String as StringKey}
 use Rattle.records.specs.Keys.{meantKey}
-use Rattle.reading.specs.Values.{child, Node}
+use Rattle.reading.specs.Values.{child, Node, at}
+use Rattle.reading.specs.Leaves.{Leaf, leafOf}
 use Rattle.reading.specs.Charging.{Environment, Used, Made, Rule, NodeRule, charge}
-use Rattle.reading.specs.Adding.{mapAt, keyText, leafText, enterKey, atPath}
+use Rattle.reading.specs.Adding.{mapAt, sequenceAt, keyText, leafText, valueAt, snoc, appendValue, enterKey, atPath}
 use Rattle.reading.specs.Reading.{lentBy, lending}
 use Rattle.reading.specs.Covering.{gives, refuses}
 use Rattle.reading.proofs.Results.{Each, gives-over, each-charge}
-use Rattle.reading.proofs.Changes.{newEntry}
-use Rattle.reading.proofs.Rules.{Obeys, Passes, at-path, Entering, enter-obeys}
+use Rattle.reading.proofs.Changes.{newEntry, newChild, element, two}
+use Rattle.reading.proofs.Rules.{Obeys, Passes, at-path, Adding, append-obeys, Entering, enter-obeys}
 use Rattle.tree.specs.declared.Here.{Here}
 use Rattle.tree.specs.declared.Performed.{Performed}
 use Rattle.tree.specs.declared.Performed.the-variants.{Made as MadeHere}
-use Rattle.tree.specs.declared.adding.LeafKind.{LeafKind}
-use Rattle.tree.specs.declared.adding.LeafKind.the-variants.{Null, NoValue, String}
-use Rattle.tree.specs.Leaves.{leafOf}
+use Rattle.reading.specs.declared.LeafKind.{LeafKind}
+use Rattle.reading.specs.declared.LeafKind.the-variants.{Null, NoValue, String}
 use Rattle.tree.specs.Laying.{layAnswer}
-use Rattle.tree.specs.Stored.{usedBy, Standing}
-use Rattle.tree.specs.Commands.{After, stood, stopped, Does, enters, further, Modest}
+use Rattle.tree.specs.Stored.{usedBy, SomeStoredAt}
+use Rattle.tree.specs.Commands.{After, stood, stopped, Performs, enters, appends, stays, further, AddsAtMost}
 use Rattle.tree.proofs.Lays.{lay-yes}
 
-key-le : (key : RawKey) (raw : List ℕ) → length (keyText (meantKey key raw)) ≤ length raw
+key-le : (key : KeyKind) (raw : List ℕ) → length (keyText (meantKey key raw)) ≤ length raw
 unfolding meantKey
 key-le (Int i) raw = omega arith
+key-le None raw = decoded-le raw
 key-le StringKey raw = decoded-le raw
 
 leaf-le : (kind : LeafKind) (raw : List ℕ) → length (leafText (leafOf kind raw)) ≤ length raw
@@ -41,9 +43,13 @@ leaf-le NoValue raw = omega arith
 leaf-le String raw = decoded-le raw
 
 -- What is laid is no longer than the raw bytes.
-pub key-laid-le : (text : List ℕ) (used : ℕ) (key : RawKey) (raw : List ℕ) {d : Decoded} {len : ℕ}
-    → d ≡ layAnswer text used (keyText (meantKey key raw)) → d ≡ Yes len → len ≤ length raw
-key-laid-le text used key raw e q = omega (arith, key-le key raw, lay-yes text used (keyText (meantKey key raw)) e q .0)
+pub key-laid-le : (text : List ℕ) (used : ℕ) (key : KeyKind) (raw : List ℕ) {d : Decoded} → d ≡ layAnswer text used (keyText (meantKey key raw))
+    → lengthOf d ≤ length raw
+key-laid-le text used key raw {d} e = go d e
+  where
+    go : (d : Decoded) → d ≡ layAnswer text used (keyText (meantKey key raw)) → lengthOf d ≤ length raw
+    go (Yes n) q = omega (arith, key-le key raw, lay-yes text used (keyText (meantKey key raw)) q refl .0)
+    go No q = omega arith
 
 pub leaf-laid-le : (text : List ℕ) (used : ℕ) (kind : LeafKind) (raw : List ℕ) {d : Decoded} {len : ℕ}
     → d ≡ layAnswer text used (leafText (leafOf kind raw)) → d ≡ Yes len → len ≤ length raw
@@ -81,28 +87,51 @@ module _ (b : ℕ) where
           newSequence = λ l u. gives {u = u} (omega arith, omega arith);
         }
 
+    adding : (x : Leaf) → length (leafText x) ≤ b
+        → Adding env x (λ k. length (keyText k) + length (leafText x) ≤ b) (λ l v u r. Little b u r) (λ k cs u r. Little b u r)
+    adding x h =
+        record {
+          passes = passes;
+          emptyKey = omega arith;
+          inserted = λ k g cs u e.
+              charged 1 (keyText k ++ leafText x) (newChild k x cs u) u (omega arith) (omega (arith, length-append (keyText k) (leafText x)));
+          becomes = λ l u. charged 0 (leafText x) (at l (valueAt x (length (u .text)))) u (omega arith) h;
+          paired = λ l v u s. charged 2 (leafText x) (sequenceAt l (two x v u)) u (omega arith) h;
+          pushed = λ l cs u. charged 1 (leafText x) (sequenceAt l (snoc cs (element x u))) u (omega arith) h;
+          pushedFirst = λ l u. charged 1 (leafText x) (sequenceAt l (element x u)) u (omega arith) h;
+        }
+
 -- Of a command that made something.
-pub made-modest : (here : Here) (k : ℕ) {there : Here} {r : Performed} → Modest here k r → r ≡ MadeHere there
+pub made-modest : (here : Here) (k : ℕ) {there : Here} {r : Performed} → AddsAtMost here k r → r ≡ MadeHere there
     → (there .records ≤ here .records + 2) × (there .bytes ≤ here .bytes + k)
-made-modest here k m e = subst (λ (y : Performed). Modest here k y) e m
+made-modest here k m e = subst (λ (y : Performed). AddsAtMost here k y) e m
 
 -- A function that does as such a rule is modest.
 module _ {ws text ws' text' : List ℕ} {here : Here} (b : ℕ) (rule : Environment → List Key → Rule Node) (to : List Key → List Key)
     (little : (env : Environment) (p : List Key) (v : Node) (u : Used) → Little b u (rule env p v u)) where
-  modest : {r : Performed} → Standing ws text here → Does ws text ws' text' here rule to r → Modest here b r
-  modest {r} s d = go (d env (s .path) (s .tree) (s .laid) (s .stands)) (little env (s .path) (s .tree) (usedBy here (s .laid)))
+  modest : {r : Performed} → SomeStoredAt ws text here → Performs ws text ws' text' here rule to r → AddsAtMost here b r
+  modest {r} s d = go (d env (s .path) (s .tree) (s .laid) (s .stored)) (little env (s .path) (s .tree) (usedBy here (s .laid)))
     where
       env : Environment
       env = lending (lentBy ws text)
 
-      go : {r : Performed} {m : Made Node} → After env ws' text' (to (s .path)) r m → Little b (usedBy here (s .laid)) m → Modest here b r
-      go (stood u st) (gives q) = (omega (arith, q .0), omega (arith, q .1, st .stores .fill, s .stands .stores .fill))
+      go : {r : Performed} {m : Made Node} → After env ws' text' (to (s .path)) r m → Little b (usedBy here (s .laid)) m → AddsAtMost here b r
+      go (stood u st) (gives q) = (omega (arith, q .0), omega (arith, q .1, st .stores .fill, s .stored .stores .fill))
       go stopped q = tt
 
-module _ {ws text ws' text' : List ℕ} {here : Here} {r : Performed} (s : Standing ws text here) where
-  pub enter-modest : (key : RawKey) (raw : List ℕ) → Does ws text ws' text' here (enters (meantKey key raw)) (further (meantKey key raw)) r
-      → Modest here (length raw) r
+module _ {ws text ws' text' : List ℕ} {here : Here} {r : Performed} (s : SomeStoredAt ws text here) where
+  pub enter-modest : (key : KeyKind) (raw : List ℕ) → Performs ws text ws' text' here (enters (meantKey key raw)) (further (meantKey key raw)) r
+      → AddsAtMost here (length raw) r
   enter-modest key raw d =
       modest (length raw) (enters (meantKey key raw)) (further (meantKey key raw))
       (λ env p v u.
-      at-any (length raw) p (enterKey env (meantKey key raw)) (enter-obeys (entering (length raw) env) (meantKey key raw) (key-le key raw)) (v .row) (v .value) u) s d
+      at-any (length raw) p (enterKey env (meantKey key raw)) (enter-obeys (entering (length raw) env) (meantKey key raw) (key-le key raw))
+      (v .row) (v .value) u) s d
+
+  pub append-modest : (kind : LeafKind) (value : List ℕ) → Performs ws text ws' text' here (appends (leafOf kind value)) stays r
+      → AddsAtMost here (length value) r
+  append-modest kind value d =
+      modest (length value) (appends (leafOf kind value)) stays
+      (λ env p v u.
+      at-any (length value) p (appendValue env (leafOf kind value)) (append-obeys (adding (length value) env (leafOf kind value) (leaf-le kind value)))
+      (v .row) (v .value) u) s d

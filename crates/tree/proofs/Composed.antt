@@ -13,7 +13,8 @@ use Rattle.reading.specs.Values.{Row, rowKey, Value, uninitialized, null, noVal
 use Rattle.reading.specs.Leaves.{Leaf}
 use Rattle.key.specs.KeyOrder.{compareKeys, choose}
 use Rattle.reading.specs.Charging.{Environment, Used, Made, made, refused, Rule, NodeRule, over, bind}
-use Rattle.reading.specs.Adding.{mapAt, expectMap, expectSequence, becomeMap, becomeSequence, keyText, leafText, insertNew, enterNew, appendValue, atEntry, inMap, insertUnique, unchanged, enterKey, pushLast, noPath, atPath}
+use Rattle.reading.specs.Adding.{mapAt, expectMap, expectSequence, becomeMap, becomeSequence, keyText, leafText}
+use Rattle.reading.specs.Adding.{insertNew, enterNew, appendValue, atEntry, inMap, insertUnique, unchanged, enterKey, pushLast, noPath, atPath}
 use Rattle.reading.specs.Scanning.{under, last, enter, needMap, needSequence, add}
 use Rattle.reading.specs.Running.{perform}
 use Rattle.reading.proofs.Labels.{compare-label}

@@ -1,38 +1,42 @@
 -- The ways through `enter`: the key is found, or a new child is put in.
 use mathlib.Core.Path.{_≡_, refl, ap, sym, _∙_, subst}
 use mathlib.Core.Bool.{Bool, true, false}
-use mathlib.Core.List.{List, [], _∷_, _++_}
-use Prim.Native.Nat.{ℕ, suc, _+_, _-_, _/_, _<_, _≤_}
+use mathlib.Core.List.{List, [], _∷_, _++_, append-assoc}
+use Prim.Native.Nat.{ℕ, suc, _+_, _/_, _<_, _≤_, _^_}
 use native.Mathlib.Omega.{arith}
-use lib.ListN.{length, replicate, length-append}
+use lib.ListN.{length, take, drop, length-append, length-drop, take-append-drop}
+use lib.Seq.{drop-at}
 use lib.Dec.{leb}
-use borrow.Author.Tests.{leb-true, leb-false, ne-eqb}
+use borrow.Author.Tests.{leb-true, leb-false, le-leb, ne-eqb}
 use Rattle.row.specs.Row.{recordWidth, kindWord, uninitializedKind, mapKind}
 use Rattle.decode.specs.Decoding.{decoded}
 use Rattle.decode.specs.declared.Decoded.{Decoded}
 use Rattle.decode.specs.declared.Decoded.the-variants.{Yes, No}
+use Rattle.decode.specs.Shown.{lengthOf, shownOf}
+use Rattle.decode.specs.ShownAfter.{Calls}
+use Rattle.decode.proofs.ShownAfter.{shown-after}
 use Rattle.key.specs.Keys.{Key, int, str}
-use Rattle.records.specs.declared.keys.RawKey.{RawKey}
-use Rattle.records.specs.declared.keys.RawKey.the-variants.{Int, String}
+use Rattle.key.specs.declared.KeyKind.{KeyKind}
+use Rattle.key.specs.declared.KeyKind.the-variants.{None, Int, String}
 use Rattle.records.specs.declared.siblings.Position.{Position}
 use Rattle.records.specs.declared.siblings.Position.the-variants.{Found, Between}
 use Rattle.records.specs.declared.store.KeyWords.{KeyWords}
 use Rattle.records.specs.declared.store.Record.{Record}
 use Rattle.row.specs.Words.{recordCount, word}
 use Rattle.records.specs.Records.{inserted}
-use Rattle.records.specs.Keys.{meantKey, InText}
-use Rattle.records.specs.Siblings.{standing, position, children, WellFormed}
+use Rattle.records.specs.Keys.{meantKey, InText, unescaped, soughtKey}
+use Rattle.records.specs.Siblings.{standing, position, children, WellFormed, ForSome}
 use Rattle.records.specs.Adding.{childless}
 use Rattle.records.specs.Nodes.{Nodes, node, plug}
 use Rattle.records.specs.Holds.{Holds}
 use Rattle.records.proofs.Chains.{between-within}
 use Rattle.records.proofs.Rows.{length-linked, length-withWords}
-use Rattle.records.proofs.Held.{position-is, other-text}
+use Rattle.records.proofs.Held.{position-is}
 use Rattle.records.proofs.Seeking.{seekNode, insertNode, keyStands}
 use Rattle.records.proofs.Grown.{insert-holds}
 use Rattle.reading.specs.Values.{uninitialized, map, Forest, child, Node}
 use Rattle.refusals.specs.declared.Refusal.the-variants.{TooFewRecords, TooLittleText}
-use Rattle.reading.specs.Charging.{Lent, Environment, more, Made, made, over, bind, charge}
+use Rattle.reading.specs.Charging.{Lent, Environment, more, Made, made, Rule, over, bind, charge}
 use Rattle.reading.specs.Adding.{mapAt, expectMap, keyText, labelAt, rowAt, enterNew, atEntry, unchanged, enterKey}
 use Rattle.reading.specs.Laid.{LaidAll}
 use Rattle.reading.specs.Scanning.{enter}
@@ -44,28 +48,29 @@ use Rattle.tree.specs.declared.Performed.{Performed}
 use Rattle.tree.specs.declared.Performed.the-variants.{Made as MadeHere, Refused}
 use Rattle.tree.specs.Nodes.{labelWords, recordOf, nodes, rooted}
 use Rattle.tree.specs.Needing.{mapAnswer, becomes}
-use Rattle.tree.specs.Laying.{layAnswer, laid}
-use Rattle.tree.specs.Entering.{newKeyWords, Entered}
-use Rattle.tree.specs.Stored.{Stores, Leads, put, usedBy, Stands}
-use Rattle.tree.specs.Commands.{After, stood, stopped, Does, enters, further}
-use Rattle.tree.proofs.Lays.{lay-yes, lay-no, laid-full, length-laid}
+use Rattle.tree.specs.Laying.{laid, LiesBehind, lies, lacks}
+use Rattle.tree.specs.Entering.{newStringWords, newKeyWords, soughtBytes, unlaid, Entered}
+use Rattle.tree.specs.Stored.{Stores, Leads, put, usedBy, StoredAt, SomeStoredAt}
+use Rattle.tree.specs.Commands.{After, stood, stopped, Performs, needsMap, enters, stays, further, Countable}
+use Rattle.tree.proofs.Lays.{length-laid, laid-stays}
 use Rattle.tree.proofs.Entries.{over-over, Occupied, Vacant, occupied, vacant, turns}
 use Rattle.tree.proofs.Paths.{changed, down}
-use Rattle.tree.proofs.Standing.{same-lent}
-use Rattle.tree.proofs.Chained.{not-both}
-use Rattle.tree.proofs.Needs.{mapNeed, Served, served, unserved, serve, length-becomes, made-laid, made-shaped}
+use Rattle.tree.proofs.StoredTrees.{same-lent, at-end, at-other, some, stand-end}
+use Rattle.tree.proofs.Chained.{not-both, then-standing}
+use Rattle.tree.proofs.Needs.{mapNeed, needed-here, Served, served, unserved, serve, length-becomes, made-laid, made-shaped}
 use Rattle.tree.proofs.Appends.{over-charge, charge-few, charge-little, charge-made}
 
 -- The words of a new key are its label's, and its text lies where they say.
-key-words : (key : RawKey) (raw : List ℕ) (o : ℕ)
+string-words : (x : List ℕ) (o : ℕ) → newStringWords o (length x) ≡ labelWords (labelAt (str x) o)
+string-words [] o = refl
+string-words (b ∷ x) o = rw (ne-eqb (suc (length x)) 0 (λ e. omega arith))
+
+key-words : (key : KeyKind) (raw : List ℕ) (o : ℕ)
     → newKeyWords key o (length (keyText (meantKey key raw))) ≡ labelWords (labelAt (meantKey key raw) o)
 unfolding meantKey
 key-words (Int i) raw o = refl
-key-words String raw o = go (decoded raw)
-  where
-    go : (d : List ℕ) → newKeyWords String o (length d) ≡ labelWords (labelAt (str d) o)
-    go [] = refl
-    go (b ∷ d) = rw (ne-eqb (suc (length d)) 0 (λ e. omega arith))
+key-words None raw o = string-words (decoded raw) o
+key-words String raw o = string-words (decoded raw) o
 
 key-inside : (k : Key) (text : List ℕ) (o : ℕ) → o + length (keyText k) ≤ length text → InText text (labelWords (labelAt k o))
 key-inside (int i) text o l = λ e. absurd (e refl)
@@ -85,21 +90,28 @@ module _ {ws text : List ℕ} {used filled : ℕ} {p : List Key} {v : Node} {t :
   so-laid = i .texts t (map cs) (st .texts)
 
   is-occupied : (m : ℕ) → position ws text k n ≡ Found m → Occupied k cs m
-  is-occupied m e = occupied (keyStands text k) k cs 0 m (sought e) (turns text t (replicate (length text - length t) 0) k cs (st .full) so-laid)
+  is-occupied m e = occupied (keyStands text k) k cs 0 m (sought e) (turns text t (st .free) k cs (st .full) so-laid)
 
   is-vacant : (a b : ℕ) → position ws text k n ≡ Between a b → Vacant (keyStands text k) k cs
-  is-vacant a b e = vacant (keyStands text k) k cs 0 a b (sought e) (turns text t (replicate (length text - length t) 0) k cs (st .full) so-laid)
+  is-vacant a b e = vacant (keyStands text k) k cs 0 a b (sought e) (turns text t (st .free) k cs (st .full) so-laid)
+
+-- A tree stands at the record once the map is needed there.
+pub map-stands : {ws text ws1 : List ℕ} {here there : Here} {r1 : Performed} → SomeStoredAt ws text here
+    → (r1 ≡ mapAnswer here (word ws (here .node) kindWord)) × (ws1 ≡ becomes ws (here .node) mapKind) → Performs ws text ws1 text here needsMap stays r1
+    → r1 ≡ MadeHere there → SomeStoredAt ws1 text here
+map-stands {ws} {text} {ws1} s e d q =
+    subst (λ (h : Here). SomeStoredAt ws1 text h) (needed-here mapNeed s (e .0) (e .1) q) (then-standing needsMap stays d s q)
 
 -- After the map that is needed.
-module _ (ws text : List ℕ) (here : Here) (key : RawKey) (raw : List ℕ) {ws1 : List ℕ} {r1 : Performed}
+module _ (ws text : List ℕ) (here : Here) (key : KeyKind) (raw : List ℕ) {ws1 : List ℕ} {r1 : Performed}
     (er : r1 ≡ mapAnswer here (word ws (here .node) kindWord)) (ew : ws1 ≡ becomes ws (here .node) mapKind) {there : Here} (made-it : r1 ≡ MadeHere there) where
   abbrev k : Key
   k = meantKey key raw
 
   abbrev Promise : List ℕ → List ℕ → Performed → Type 0
-  Promise ws' text' r = Does ws text ws' text' here (enters (meantKey key raw)) (further (meantKey key raw)) r
+  Promise ws' text' r = Performs ws text ws' text' here (enters (meantKey key raw)) (further (meantKey key raw)) r
 
-  module _ {env : Environment} {p : List Key} {v : Node} {t : List ℕ} (s : Stands env ws text here p v t) where
+  module _ {env : Environment} {p : List Key} {v : Node} {t : List ℕ} (s : StoredAt env ws text here p v t) where
     abbrev i : Leads p v (here .node)
     i = s .leads
 
@@ -142,7 +154,7 @@ module _ (ws text : List ℕ) (here : Here) (key : RawKey) (raw : List ℕ) {ws1
 
   -- The key is new.
   module _ {y : Position} (e : y ≡ position ws1 text (meantKey key raw) (here .node)) {prev next : ℕ} (q : y ≡ Between prev next) where
-    module _ {env : Environment} {p : List Key} {v : Node} {t : List ℕ} (s : Stands env ws text here p v t) (cs : Forest)
+    module _ {env : Environment} {p : List Key} {v : Node} {t : List ℕ} (s : StoredAt env ws text here p v t) (cs : Forest)
         (f : expectMap (s .leads .value) (usedBy here t) ≡ made cs (usedBy here t))
         (st : Stores ws1 text (here .records) (here .bytes) (put (s .leads) (map cs)) t) where
       g : Vacant (keyStands text k) k cs
@@ -175,15 +187,24 @@ module _ (ws text : List ℕ) (here : Here) (key : RawKey) (raw : List ℕ) {ws1
       abbrev record-of : Record
       record-of = recordOf (rowAt k (length t)) uninitialized
 
-      module _ {ws' text' : List ℕ} (room : here .records + 1 ≤ recordCount ws1) (fits : here .bytes + length (keyText k) ≤ length text)
+      module _ {ws' : List ℕ} (room : here .records + 1 ≤ recordCount ws1) (fits : here .bytes + length (keyText k) ≤ length text)
+          (lie : take (length (keyText k)) (drop (here .bytes) text) ≡ keyText k)
           (ews : ws' ≡ inserted ws1 (here .records) (here .node) prev next
-          (record { key = newKeyWords key (here .bytes) (length (keyText k)); value = childless uninitializedKind }))
-          (et : text' ≡ laid text (here .bytes) (keyText k)) where
+          (record { key = newKeyWords key (here .bytes) (length (keyText k)); value = childless uninitializedKind })) where
         makes : perform env (enter p k) v (usedBy here t) ≡ made new (more (usedBy here t) 1 (keyText k))
         makes = charged ∙ charge-made env 1 (keyText k) new (usedBy here t) (omega (arith, records-lent)) (omega (arith, bytes-lent, st .fill))
 
-        long : length text' ≡ length text
-        long = ap length et ∙ length-laid text (here .bytes) (keyText k) (omega arith)
+        -- The key's text follows what was laid.
+        free-is : drop (here .bytes) text ≡ st .free
+        free-is = ap (drop (here .bytes)) (st .full) ∙ drop-at t (st .free) (here .bytes) (sym (st .fill))
+
+        follows : text ≡ (t ++ keyText k) ++ drop (length (keyText k)) (st .free)
+        follows =
+            st .full
+            ∙ ap (λ (x : List ℕ). t ++ x)
+            (sym (take-append-drop (length (keyText k)) (st .free))
+            ∙ ap (λ (x : List ℕ). x ++ drop (length (keyText k)) (st .free)) (ap (take (length (keyText k))) (sym free-is) ∙ lie))
+            ∙ sym (append-assoc t (keyText k) (drop (length (keyText k)) (st .free)))
 
         wide : length ws' ≡ length ws
         wide = ap length ews ∙ length-linked _ (here .node) prev (here .records) ∙ length-withWords ws1 (here .records) _ ∙ same-words
@@ -195,87 +216,139 @@ module _ (ws text : List ℕ) (here : Here) (key : RawKey) (raw : List ℕ) {ws1
             (key-words key raw (here .bytes) ∙ ap (λ (o : ℕ). labelWords (labelAt k o)) (st .fill))
 
         shape : rooted new
-            ≡ plug (s .leads .around) (node (here .node) (recordOf (s .leads .row) (map cs)) (insertNode (keyStands text k) (here .records) record-of (nodes cs))
+            ≡ plug (s .leads .around)
+            (node (here .node) (recordOf (s .leads .row) (map cs)) (insertNode (keyStands text k) (here .records) record-of (nodes cs))
             (s .leads .rest))
         shape =
             s .leads .is (map grown)
             ∙ ap (λ (q : Nodes). plug (s .leads .around) (node (here .node) (recordOf (s .leads .row) (map cs)) q (s .leads .rest)))
             (g .is (here .records) (rowAt k (length t)) uninitialized refl)
 
-        held : Holds ws' text' (here .records + 1) (rooted new)
+        held : Holds ws' text (here .records + 1) (rooted new)
         held =
-            other-text
-            (subst (λ (q : List ℕ). Holds q text (here .records + 1) (rooted new)) (sym written)
+            subst (λ (q : List ℕ). Holds q text (here .records + 1) (rooted new)) (sym written)
             (subst (λ (q : Nodes). Holds (inserted ws1 (here .records) (here .node) prev next record-of) text (here .records + 1) q) (sym shape)
-            (insert-holds (here .node) (recordOf (s .leads .row) (map cs)) (nodes cs) (s .leads .rest) (s .leads .around) (at-map (s .leads) cs st k) (omega arith)
-            record-of (keyStands text k) prev next (sought (s .leads) cs st k (sym e ∙ q)) (key-inside k text (length t) (omega (arith, st .fill))))))
-            text' long
+            (insert-holds (here .node) (recordOf (s .leads .row) (map cs)) (nodes cs) (s .leads .rest) (s .leads .around)
+            (at-map (s .leads) cs st k) (omega arith) record-of (keyStands text k) prev
+            next (sought (s .leads) cs st k (sym e ∙ q)) (key-inside k text (length t) (omega (arith, st .fill)))))
 
         abbrev answer : Performed
         answer = MadeHere (record { records = here .records + 1; bytes = here .bytes + length (keyText k); node = here .records })
 
-        entered-new : After env ws' text' (p ++ (k ∷ [])) answer (perform env (enter p k) v (usedBy here t))
+        entered-new : After env ws' text (p ++ (k ∷ [])) answer (perform env (enter p k) v (usedBy here t))
         entered-new =
-            subst (λ (m : Made Node). After env ws' text' (p ++ (k ∷ [])) answer m) (sym makes)
+            subst (λ (m : Made Node). After env ws' text (p ++ (k ∷ [])) answer m) (sym makes)
             (stood refl
             (record {
-              lent-is = s .lent-is ∙ same-lent ws text ws' text' wide long;
+              lent-is = s .lent-is ∙ same-lent ws text ws' text wide refl;
               stores =
                   record {
                     holds = held;
                     texts = made-laid makes (s .stores .texts) (perform-adds env (enter p k) v (usedBy here t));
                     shaped = made-shaped makes (perform-shaped env (enter p k) v (usedBy here t) (s .stores .shaped));
-                    full = rw et (laid-full text t (keyText k) (here .bytes) (st .full) (st .fill) fits);
+                    free = drop (length (keyText k)) (st .free);
+                    full = follows;
                     fill = omega (arith, st .fill, length-append t (keyText k));
                   };
               leads = down k (changed (s .leads) (map grown)) grown (here .records) refl (g .entered (here .records) (length t) uninitialized);
             }))
 
-      by-way : {ws' text' : List ℕ} {r : Performed} → Entered ws1 text here prev next key raw ws' text' r
-          → After env ws' text' (p ++ (k ∷ [])) r (perform env (enter p k) v (usedBy here t))
-      by-way {ws'} {text'} (Entered.few l) =
-          subst (λ (m : Made Node). After env ws' text' (p ++ (k ∷ [])) (Refused TooFewRecords) m)
+      by-way : {ws' : List ℕ} {d : Decoded} {r : Performed} → LiesBehind text (here .bytes) (keyText k) d → Entered ws1 here prev next key ws' d r
+          → After env ws' text (p ++ (k ∷ [])) r (perform env (enter p k) v (usedBy here t))
+      by-way {ws'} lie (Entered.few l) =
+          subst (λ (m : Made Node). After env ws' text (p ++ (k ∷ [])) (Refused TooFewRecords) m)
           (sym (charged ∙ charge-few env 1 (keyText k) new (usedBy here t) (omega (arith, records-lent)))) (stopped)
-      by-way {ws'} {text'} (Entered.little room l) =
-          subst (λ (m : Made Node). After env ws' text' (p ++ (k ∷ [])) (Refused TooLittleText) m)
+      by-way {ws'} (lacks l) (Entered.little room) =
+          subst (λ (m : Made Node). After env ws' text (p ++ (k ∷ [])) (Refused TooLittleText) m)
           (sym (charged ∙ charge-little env 1 (keyText k) new (usedBy here t) (omega (arith, records-lent)) (omega (arith, bytes-lent, st .fill)))) (stopped)
-      by-way {ws'} {text'} (Entered.entered room fits ews et) = entered-new room fits ews et
+      by-way (lies fits lie) (Entered.entered room ews) = entered-new room fits lie ews
 
-    pub enter-new : {ws' text' : List ℕ} {r : Performed} → Entered ws1 text here prev next key raw ws' text' r → Promise ws' text' r
-    enter-new {ws'} {text'} {r} en env p v t s = go (serve mapNeed (s .stores) (s .leads) here er ew)
+    pub enter-new : {ws' : List ℕ} {d : Decoded} {r : Performed} → LiesBehind text (here .bytes) (keyText (meantKey key raw)) d
+        → Entered ws1 here prev next key ws' d r → Promise ws' text r
+    enter-new {ws'} {d} {r} lie en env p v t s = go (serve mapNeed (s .stores) (s .leads) here er ew)
       where
-        go : Served mapNeed (s .stores) (s .leads) here er ew → After env ws' text' (p ++ (k ∷ [])) r (perform env (enter p k) v (usedBy here t))
+        go : Served mapNeed (s .stores) (s .leads) here er ew → After env ws' text (p ++ (k ∷ [])) r (perform env (enter p k) v (usedBy here t))
         go (unserved x a f) = not-both (sym made-it ∙ a)
-        go (served cs a f st) = by-way s cs (f (usedBy here t)) st en
+        go (served cs a f st) = by-way s cs (f (usedBy here t)) st lie en
 
 -- The one before the place is a record.
-pub prev-inside : {ws text : List ℕ} {n : ℕ} (k : Key) → WellFormed ws text → n < recordCount ws → {y : Position} → y ≡ position ws text k n
-    → {prev next : ℕ} → y ≡ Between prev next → prev < recordCount ws
-prev-inside {ws} {text} {n} k w l e {prev} {next} q =
-    between-within (standing ws text k) n (recordCount ws) 0 prev next (children ws n) (sym e ∙ q) (omega arith) (w .links .rising n l)
+pub prev-inside : {ws text : List ℕ} {n : ℕ} (k : Key) → (among : ForSome (λ used. WellFormed ws text used × (n < used)))
+    → {y : Position} → y ≡ position ws text k n → {prev next : ℕ} → y ≡ Between prev next → prev < recordCount ws
+prev-inside {ws} {text} {n} k among e {prev} {next} q =
+    let w = among .holds .0 .links in
+    omega (
+      arith,
+      between-within (standing ws text k) n (among .used) 0 prev next (children ws n) (sym e ∙ q) (omega (arith, among .holds .1))
+          (w .rising n (among .holds .1)),
+      w .room,
+    )
+
+-- The key is laid behind what is used before it is looked for: the tree stands there still.
+module _ {ws text text1 : List ℕ} {here : Here} (bytes : List ℕ) (e : text1 ≡ laid text (here .bytes) bytes) where
+  pub laid-standing : SomeStoredAt ws text here → SomeStoredAt ws text1 here
+  laid-standing s =
+      some (at-other (s .stored) text1 (laid-stays text (here .bytes) bytes (stand-end s) e) (ap length e ∙ length-laid text (here .bytes) bytes (stand-end s)))
+
+  -- What is done from there is done from before.
+  pub from-before : (rule : Environment → List Key → Rule Node) (to : List Key → List Key) {ws' text' : List ℕ} {r : Performed}
+      → Performs ws text1 ws' text' here rule to r → Performs ws text ws' text' here rule to r
+  from-before rule to d env p v t s =
+      d env p v t (at-other s text1 (laid-stays text (here .bytes) bytes (at-end s) e) (ap length e ∙ length-laid text (here .bytes) bytes (at-end s)))
+
+-- What is looked for is the key that is meant, whether it is laid or not.
+sought-text : (raw text : List ℕ) (used : ℕ) {d : Decoded} → LiesBehind text used (decoded raw) d
+    → unescaped (unlaid d) (soughtBytes raw (drop used text) d) ≡ decoded raw
+sought-text raw text used (lies l e) = shown-after raw calls .yes refl
+  where
+    tail : List ℕ
+    tail = drop used text
+
+    room : leb (length (decoded raw)) (length tail) ≡ true
+    room = le-leb (length (decoded raw)) (length tail) (omega (arith, length-drop used text))
+
+    calls : Calls raw
+    calls =
+        record {
+          lent = tail;
+          answered = Yes (length (decoded raw));
+          left = tail;
+          shown = shownOf raw tail (Yes (length (decoded raw)));
+          answers = rw room;
+          writes = rw room (sym (take-append-drop (length (decoded raw)) tail) ∙ ap (λ (x : List ℕ). x ++ drop (length (decoded raw)) tail) e);
+          shows = refl;
+        }
+sought-text raw text used (lacks l) = refl
+
+pub sought-is : (key : KeyKind) (raw text : List ℕ) (used : ℕ) {d : Decoded} → LiesBehind text used (keyText (meantKey key raw)) d
+    → soughtKey key (unlaid d) (soughtBytes raw (drop used text) d) ≡ meantKey key raw
+unfolding soughtKey meantKey
+sought-is None raw text used l = ap str (sought-text raw text used l)
+sought-is (Int i) raw text used l = refl
+sought-is String raw text used l = ap str (sought-text raw text used l)
 
 -- The ways through `enter_new`.
-module _ (ws text : List ℕ) (here : Here) (prev next : ℕ) (key : RawKey) (raw : List ℕ) {b : Bool} (e : b ≡ leb (here .records + 1) (recordCount ws)) where
-  pub new-few : {ws' text' : List ℕ} → b ≡ false → Entered ws text here prev next key raw ws' text' (Refused TooFewRecords)
+module _ (ws : List ℕ) (here : Here) (prev next : ℕ) (key : KeyKind) (d : Decoded) {b : Bool} (e : b ≡ leb (here .records + 1) (recordCount ws)) where
+  pub new-few : {ws' : List ℕ} → b ≡ false → Entered ws here prev next key ws' d (Refused TooFewRecords)
   new-few q = Entered.few (leb-false (here .records + 1) (recordCount ws) (sym e ∙ q))
 
-  module _ (q : b ≡ true) {d : Decoded} (ed : d ≡ layAnswer text (here .bytes) (keyText (meantKey key raw))) where
+  module _ (q : b ≡ true) where
     room : here .records + 1 ≤ recordCount ws
     room = leb-true (here .records + 1) (recordCount ws) (sym e ∙ q)
 
-    pub new-little : {ws' text' : List ℕ} → d ≡ No → Entered ws text here prev next key raw ws' text' (Refused TooLittleText)
-    new-little n = Entered.little room (lay-no text (here .bytes) (keyText (meantKey key raw)) ed n)
+    pub new-little : {ws' : List ℕ} → d ≡ No → Entered ws here prev next key ws' d (Refused TooLittleText)
+    new-little {ws'} n = subst (λ (x : Decoded). Entered ws here prev next key ws' x (Refused TooLittleText)) (sym n) (Entered.little room)
 
-    pub new-entered : {ws' text' : List ℕ} → text' ≡ laid text (here .bytes) (keyText (meantKey key raw)) → {len : ℕ} → d ≡ Yes len
-        → {kw : KeyWords} → kw ≡ newKeyWords key (here .bytes) len
+    pub new-entered : {ws' : List ℕ} {len : ℕ} → d ≡ Yes len → {kw : KeyWords} → kw ≡ newKeyWords key (here .bytes) len
         → ws' ≡ inserted ws (here .records) (here .node) prev next (record { key = kw; value = childless uninitializedKind })
-        → Entered ws text here prev next key raw ws' text' (MadeHere (record { records = here .records + 1; bytes = here .bytes + len; node = here .records }))
-    new-entered {ws'} {text'} et {len} y {kw} ek ews =
-        let l = lay-yes text (here .bytes) (keyText (meantKey key raw)) ed y in
-        subst (λ (n : ℕ). Entered ws text here prev next key raw ws' text' (MadeHere (record { records = here .records + 1; bytes = here .bytes + n; node = here .records })))
-        (sym (l .0))
-        (Entered.entered room (l .1)
-        (ews
-        ∙ ap (λ (y : KeyWords). inserted ws (here .records) (here .node) prev next (record { key = y; value = childless uninitializedKind }))
-        (ek ∙ ap (newKeyWords key (here .bytes)) (l .0)))
-        et)
+        → Entered ws here prev next key ws' d (MadeHere (record { records = here .records + 1; bytes = here .bytes + len; node = here .records }))
+    new-entered {ws'} {len} y {kw} ek ews =
+        subst
+        (λ (x : Decoded).
+        Entered ws here prev next key ws' x (MadeHere (record { records = here .records + 1; bytes = here .bytes + len; node = here .records })))
+        (sym y)
+        (Entered.entered room
+        (ews ∙ ap (λ (w : KeyWords). inserted ws (here .records) (here .node) prev next (record { key = w; value = childless uninitializedKind })) ek))
+
+-- The length of a laid key counts.
+pub laid-countable : (here : Here) {len : ℕ} {d : Decoded} → Countable here 2 (lengthOf d) → d ≡ Yes len → here .bytes + len < 2 ^ 32
+laid-countable here c e = subst (λ (x : Decoded). here .bytes + lengthOf x < 2 ^ 32) e (c .1)

@@ -1,18 +1,23 @@
 -- Text laid behind what is used.
-use mathlib.Core.Path.{_≡_, ap, sym, _∙_}
-use mathlib.Core.Bool.{cond}
+use mathlib.Core.Path.{_≡_, refl, ap, sym, _∙_, subst}
+use mathlib.Core.Bool.{true, false, cond}
 use mathlib.Core.List.{List, [], _++_, append-assoc}
-use Prim.Native.Nat.{ℕ, zero, suc, _+_, _-_, _<_, _≤_}
+use Prim.Native.Nat.{ℕ, _+_, _<_, _≤_}
 use native.Mathlib.Omega.{arith}
 use native.Mathlib.Decide.{decLe}
-use lib.ListN.{length, take, drop, replicate, length-append, length-drop, take-append-drop}
-use lib.Seq.{take-at, drop-at, length-take-le, drop-drop}
+use lib.ListN.{length, take, drop, length-append, length-drop, take-append-drop}
+use lib.Seq.{take-at, drop-at, length-take-le, drop-drop, take-append-seam}
 use borrow.Author.Tests.{le-leb, lt-leb}
 use Rattle.decode.specs.Decoding.{decoded, fitsIn, answerOf, answer, written}
 use Rattle.decode.specs.declared.Decoded.{Decoded}
 use Rattle.decode.specs.declared.Decoded.the-variants.{Yes, No}
 use Rattle.decode.proofs.Loops.{told}
-use Rattle.tree.specs.Laying.{layAnswer, laid}
+use Rattle.laws.proofs.Cases.{true-false}
+use Rattle.key.specs.declared.KeyKind.{KeyKind}
+use Rattle.key.specs.declared.KeyKind.the-variants.{None, Int, String}
+use Rattle.records.specs.Keys.{meantKey, ofInt}
+use Rattle.reading.specs.Adding.{keyText}
+use Rattle.tree.specs.Laying.{layAnswer, laid, LiesBehind, lies, lacks}
 
 -- By whether the bytes fit.
 module _ (text : List ℕ) (used : ℕ) (bytes : List ℕ) where
@@ -74,9 +79,12 @@ module _ (text raw : List ℕ) (used : ℕ) (l : used ≤ length text) where
     where
       go : Dec (used + length (decoded raw) ≤ length text)
           → cond (fitsIn raw (drop used text)) (Yes (length (decoded raw))) No ≡ layAnswer text used (decoded raw)
-      go (yes h) = rw (answer-yes text used (decoded raw) h) (simp (le-leb (length (decoded raw)) (length (drop used text)) (omega (arith, length-drop used text))))
+      go (yes h) =
+          rw (answer-yes text used (decoded raw) h)
+          (simp (le-leb (length (decoded raw)) (length (drop used text)) (omega (arith, length-drop used text))))
       go (no h) =
-          rw (answer-no text used (decoded raw) (omega arith)) (simp (lt-leb (length (decoded raw)) (length (drop used text)) (omega (arith, length-drop used text))))
+          rw (answer-no text used (decoded raw) (omega arith))
+          (simp (lt-leb (length (decoded raw)) (length (drop used text)) (omega (arith, length-drop used text))))
 
   pub decode-laid : take used text ++ written raw (drop used text) ≡ laid text used (decoded raw)
   decode-laid = go (decLe (used + length (decoded raw)) (length text))
@@ -93,34 +101,54 @@ module _ (text raw : List ℕ) (used : ℕ) (l : used ≤ length text) where
           (laid-short text used (decoded raw) (omega arith), lt-leb (length (decoded raw)) (length (drop used text)) (omega (arith, length-drop used text)))
           (take-append-drop used text)
 
--- The first bytes are t, and the rest is zero.
-abbrev pub Full : List ℕ → List ℕ → Type 0
-Full text t = text ≡ t ++ replicate (length text - length t) 0
+-- A text that starts with t.
+pub full-le : {text : List ℕ} (t free : List ℕ) → text ≡ t ++ free → length t ≤ length text
+full-le t free e = omega (arith, ap length e, length-append t free)
 
-pub full-le : (text t : List ℕ) → Full text t → length t ≤ length text
-full-le text t e = omega (arith, ap length e, length-append t (replicate (length text - length t) 0))
+-- What is laid follows t, and t stays whether the bytes fit or not.
+module _ {text : List ℕ} (t free bytes : List ℕ) {filled : ℕ} (e : text ≡ t ++ free) (f : filled ≡ length t) where
+  front : take filled text ≡ t
+  front = ap (take filled) e ∙ take-at t free filled (sym f)
 
-drop-zeros : (k n : ℕ) → drop k (replicate {A = ℕ} n 0) ≡ replicate (n - k) 0
-drop-zeros zero n = let e : n - 0 ≡ n = omega arith in rw e
-drop-zeros (suc k) zero = let e : 0 - suc k ≡ 0 = omega arith in rw e
-drop-zeros (suc k) (suc n) = let e : suc n - suc k ≡ n - k = omega arith in rw e (drop-zeros k n)
+  pub laid-full : filled + length bytes ≤ length text → laid text filled bytes ≡ (t ++ bytes) ++ drop (filled + length bytes) text
+  laid-full l = laid-fits text filled bytes l ∙ rw front (sym (append-assoc t bytes (drop (filled + length bytes) text)))
 
--- What is laid follows t.
-pub laid-full : (text t bytes : List ℕ) (filled : ℕ) → Full text t → filled ≡ length t → filled + length bytes ≤ length text
-    → Full (laid text filled bytes) (t ++ bytes)
-laid-full text t bytes filled e f l =
-    let m : length text - length t - length bytes ≡ length (laid text filled bytes) - length (t ++ bytes) =
-    omega (arith, length-laid text filled bytes (omega arith), length-append t bytes) in
-    laid-fits text filled bytes l ∙ whole ∙ ap (λ (i : ℕ). (t ++ bytes) ++ replicate i 0) m
-  where
-    front : take filled text ≡ t
-    front = ap (take filled) e ∙ take-at t (replicate (length text - length t) 0) filled (sym f)
+-- By the kind of a key: an Int has no text, and another's is what the segment decodes to.
+pub int-text : (key : KeyKind) (raw : List ℕ) → ofInt key ≡ true → keyText (meantKey key raw) ≡ []
+unfolding meantKey
+int-text None raw e = true-false (sym e)
+int-text (Int i) raw e = refl
+int-text String raw e = true-false (sym e)
 
-    back : drop (filled + length bytes) text ≡ replicate (length text - length t - length bytes) 0
-    back =
-        sym (drop-drop (length bytes) filled text)
-        ∙ ap (drop (length bytes)) (ap (drop filled) e ∙ drop-at t (replicate (length text - length t) 0) filled (sym f))
-        ∙ drop-zeros (length bytes) (length text - length t)
+pub string-text : (key : KeyKind) (raw : List ℕ) → ofInt key ≡ false → keyText (meantKey key raw) ≡ decoded raw
+unfolding meantKey
+string-text None raw e = refl
+string-text (Int i) raw e = true-false e
+string-text String raw e = refl
 
-    whole : take filled text ++ (bytes ++ drop (filled + length bytes) text) ≡ (t ++ bytes) ++ replicate (length text - length t - length bytes) 0
-    whole = rw (front, back) (sym (append-assoc t bytes (replicate (length text - length t - length bytes) 0)))
+-- After laying, what was used stays, and the bytes stand behind it as the answer says.
+module _ (text : List ℕ) (used : ℕ) (bytes : List ℕ) (l : used ≤ length text) {text' : List ℕ} (f : text' ≡ laid text used bytes) where
+  pub laid-stays : take used text' ≡ take used text
+  laid-stays = go (decLe (used + length bytes) (length text))
+    where
+      go : Dec (used + length bytes ≤ length text) → take used text' ≡ take used text
+      go (yes h) =
+          ap (take used) (f ∙ laid-fits text used bytes h)
+          ∙ take-at (take used text) (bytes ++ drop (used + length bytes) text) used (length-take-le used text l)
+      go (no h) = ap (take used) (f ∙ laid-short text used bytes (omega arith))
+
+  pub laid-behind : {d : Decoded} → d ≡ layAnswer text used bytes → LiesBehind text' used bytes d
+  laid-behind {d} e = go (decLe (used + length bytes) (length text))
+    where
+      long : length text' ≡ length text
+      long = ap length f ∙ length-laid text used bytes l
+
+      go : Dec (used + length bytes ≤ length text) → LiesBehind text' used bytes d
+      go (yes h) =
+          let tail : drop used text' ≡ bytes ++ drop (used + length bytes) text =
+          ap (drop used) (f ∙ laid-fits text used bytes h)
+          ∙ drop-at (take used text) (bytes ++ drop (used + length bytes) text) used (length-take-le used text l) in
+          subst (λ (a : Decoded). LiesBehind text' used bytes a) (sym (e ∙ answer-yes text used bytes h))
+          (lies (omega (arith, long)) (ap (take (length bytes)) tail ∙ take-append-seam bytes (drop (used + length bytes) text)))
+      go (no h) =
+          subst (λ (a : Decoded). LiesBehind text' used bytes a) (sym (e ∙ answer-no text used bytes (omega arith))) (lacks (omega (arith, long)))

@@ -3,7 +3,7 @@ pub mod Entries
 pub mod Paths
 pub mod Composed
 pub mod Lays
-pub mod Standing
+pub mod StoredTrees
 pub mod Chained
 pub mod Needs
 pub mod Appends

@@ -37,10 +37,10 @@ use Rattle.tree.specs.declared.Performed.{Performed}
 use Rattle.tree.specs.declared.Performed.the-variants.{Made as MadeHere, Refused}
 use Rattle.tree.specs.Nodes.{labelWords, valueWords, recordOf, below, nodes, rooted}
 use Rattle.tree.specs.Needing.{mapAnswer, sequenceAnswer, becomes}
-use Rattle.tree.specs.Stored.{Stores, Leads, put, usedBy, Standing}
-use Rattle.tree.specs.Commands.{After, stood, stopped, Does, along, stays}
+use Rattle.tree.specs.Stored.{Stores, Leads, put, usedBy, SomeStoredAt}
+use Rattle.tree.specs.Commands.{After, stood, stopped, Performs, along, stays}
 use Rattle.tree.proofs.Paths.{changed}
-use Rattle.tree.proofs.Standing.{same-lent, at-node, at-kind}
+use Rattle.tree.proofs.StoredTrees.{same-lent, at-node, at-kind}
 use Rattle.tree.proofs.Chained.{not-both}
 
 -- What a need makes of a value, its children, and what the answer is for its kind.
@@ -114,6 +114,7 @@ module _ (need : Need) where
           holds = h;
           texts = made-laid (rule-is (made cs before) e) (k .texts) (need .adds p v before);
           shaped = made-shaped (rule-is (made cs before) e) (need .shapes p v before (k .shaped));
+          free = k .free;
           full = k .full;
           fill = k .fill;
         }
@@ -126,7 +127,8 @@ module _ (need : Need) where
 
     turned : i .value ≡ uninitialized → Holds ws' text used (rooted (put i (need .wrap none)))
     turned e =
-        subst (λ (y : List ℕ). Holds y text used (rooted (put i (need .wrap none)))) (sym (ew ∙ simp (eq-eqb (word ws n kindWord) uninitializedKind (kind-of e))))
+        subst (λ (y : List ℕ). Holds y text used (rooted (put i (need .wrap none))))
+        (sym (ew ∙ simp (eq-eqb (word ws n kindWord) uninitializedKind (kind-of e))))
         (subst (λ (q : Nodes). Holds (withValue ws n (childless (need .of-kind))) text used q) (sym shape)
         (value-holds n (recordOf (i .row) uninitialized) nil (i .rest) (i .around)
         (subst (λ (y : Value). Holds ws text used (plug (i .around) (node n (recordOf (i .row) y) (below y) (i .rest)))) e (at-node k i))
@@ -154,7 +156,7 @@ module _ (need : Need) where
         go e (refuses x a f) = unserved x (er ∙ ap (need .answer here) (kind-of e) ∙ a) (λ u. needed-of e (f u))
 
   pub need-does : (ws : List ℕ) (here : Here) {ws' : List ℕ} {r : Performed} → r ≡ need .answer here (word ws (here .node) kindWord)
-      → ws' ≡ becomes ws (here .node) (need .of-kind) → (text : List ℕ) → Does ws text ws' text here (λ env path. along path rule) stays r
+      → ws' ≡ becomes ws (here .node) (need .of-kind) → (text : List ℕ) → Performs ws text ws' text here (λ env path. along path rule) stays r
   need-does ws here {ws'} {r} er ew text env p v t s = go (serve (s .stores) (s .leads) here er ew)
     where
       go : Served (s .stores) (s .leads) here er ew → After env ws' text p r (along p rule v (usedBy here t))
@@ -172,11 +174,11 @@ module _ (need : Need) where
           (subst (λ (y : Performed). After env ws' text p y (refused x)) (sym a) (stopped))
 
   -- What is needed is answered where it was.
-  pub needed-here : {ws text : List ℕ} {here there : Here} {ws' : List ℕ} {r : Performed} → Standing ws text here
+  pub needed-here : {ws text : List ℕ} {here there : Here} {ws' : List ℕ} {r : Performed} → SomeStoredAt ws text here
       → r ≡ need .answer here (word ws (here .node) kindWord) → ws' ≡ becomes ws (here .node) (need .of-kind) → r ≡ MadeHere there → there ≡ here
-  needed-here {ws} {text} {here} {there} {ws'} {r} s er ew m = go (serve (s .stands .stores) (s .stands .leads) here er ew)
+  needed-here {ws} {text} {here} {there} {ws'} {r} s er ew m = go (serve (s .stored .stores) (s .stored .leads) here er ew)
     where
-      go : Served (s .stands .stores) (s .stands .leads) here er ew → there ≡ here
+      go : Served (s .stored .stores) (s .stored .leads) here er ew → there ≡ here
       go (served cs a e q) = let f : MadeHere there ≡ MadeHere here = sym m ∙ a in cc
       go (unserved x a e) = not-both (sym m ∙ a)
 
@@ -234,7 +236,7 @@ module _ (ws : List ℕ) (here : Here) {kd : ℕ} (e : kd ≡ word ws (here .nod
     abbrev pub Promise : List ℕ → Performed → Type 0
     Promise ws' r =
         ((r ≡ need .answer here (word ws (here .node) kindWord)) × (ws' ≡ becomes ws (here .node) (need .of-kind)))
-        × ((text : List ℕ) → Does ws text ws' text here (λ env path. along path (rule need)) stays r)
+        × ((text : List ℕ) → Performs ws text ws' text here (λ env path. along path (rule need)) stays r)
 
     promise : {ws' : List ℕ} {r : Performed} → r ≡ need .answer here (word ws (here .node) kindWord) → ws' ≡ becomes ws (here .node) (need .of-kind)
         → Promise ws' r

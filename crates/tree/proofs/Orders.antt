@@ -18,5 +18,6 @@ stored-key text unkeyed h = refl
 stored-key text (intKey a) h = refl
 stored-key text (stringKey o x) h = ap str (lies-part h)
 
-pub stands-turned : (text : List ℕ) (k : Key) (l : Row) (v : Value) → LaidLabel text (l .label) → keyStands text k (recordOf l v) ≡ opposite (compareKeys k (rowKey l))
+pub stands-turned : (text : List ℕ) (k : Key) (l : Row) (v : Value) → LaidLabel text (l .label)
+    → keyStands text k (recordOf l v) ≡ opposite (compareKeys k (rowKey l))
 stands-turned text k l v h = ap (λ (j : Key). compareKeys j k) (stored-key text (l .label) h) ∙ keys-turned k (rowKey l)

@@ -1,32 +1,32 @@
--- What the words and the text hold is what `reading` leaves: every word, and every byte of the text. And what a reading starts from.
+-- What the words and the text hold is what `reading` leaves, once the rest is cleared: every word, and every byte of the text. And what a
+-- reading starts from.
 use mathlib.Core.Path.{_≡_, refl, ap, sym, _∙_}
 use mathlib.Core.Bool.{cond}
 use mathlib.Core.List.{List, [], _++_}
 use Prim.Native.Nat.{ℕ, _+_, _*_, _-_, _/_, _%_, _<_, _≤_}
 use native.Mathlib.Omega.{arith}
 use native.Mathlib.Decide.{ℕ-discrete, decLt}
-use lib.ListN.{length, getD, replicate, length-append, length-replicate, List·getD-append}
-use lib.Seq.{ext-getD, getD-append-add}
+use lib.ListN.{length, getD, take, replicate}
+use lib.Seq.{ext-getD, getD-take, length-take-le, take-at}
 use lib.Dec.{eqb}
 use borrow.Author.Tests.{eq-eqb, ne-eqb}
-use Rattle.row.specs.Row.{recordWidth, noValueKind}
-use Rattle.laws.proofs.Lists.{zeros}
+use Rattle.row.specs.Row.{recordWidth, uninitializedKind, noValueKind}
 use Rattle.row.specs.Words.{word}
-use Rattle.records.specs.Records.{withValue}
-use Rattle.records.specs.Adding.{childless}
-use Rattle.records.specs.Nodes.{nil, first as firstNode, indicator, count, here}
+use Rattle.records.specs.Records.{withRecord}
+use Rattle.records.specs.Adding.{unkeyed, childless}
+use Rattle.records.specs.Nodes.{first as firstNode, indicator, count}
 use Rattle.records.specs.Holds.{Represents}
 use Rattle.records.specs.Holds as Stored
 use Rattle.records.proofs.Forests.{indicator-same, indicator-other, row, row-words}
-use Rattle.records.proofs.Valued.{value-holds}
 use Rattle.records.proofs.Start.{start-holds}
-use Rattle.reading.specs.Values.{Label, unkeyed, intKey, stringKey, Row, bare, Value, uninitialized, null, noValue, string, map, sequence, Forest, none, child, Node}
+use Rattle.reading.specs.Values.{Label, unkeyed as noKey, intKey, stringKey, Row, Value, uninitialized, null, noValue, string}
+use Rattle.reading.specs.Values.{map, sequence, Forest, none, child, Node}
 use Rattle.reading.specs.Records.{first, firstChild, recordWords, recordBelow, recordAmong, recordsFrom, rooted as forestOf, layout}
 use Rattle.reading.specs.Running.{accepted}
 use Rattle.reading.specs.Reading.{Outcome, accepts, alone, outcome}
 use Rattle.reading.proofs.Layouts.{records-at, records-length}
 use Rattle.tree.specs.Nodes.{recordOf, below, nodes}
-use Rattle.tree.specs.Stored.{Stores}
+use Rattle.tree.specs.Stored.{Stores, clearedFrom}
 
 pub first-node : (cs : Forest) → firstNode (nodes cs) ≡ first cs
 first-node none = refl
@@ -44,7 +44,7 @@ row-is : (l : Row) (v : Value) (cs : Forest) → row (recordOf l v) (firstChild 
 row-is l v cs = go (l .label)
   where
     go : (x : Label) → row (recordOf (record { label = x }) v) (firstChild v) (first cs) ≡ recordWords (record { label = x }) v cs
-    go unkeyed = refl
+    go noKey = refl
     go (intKey a) = refl
     go (stringKey o y) = refl
 
@@ -92,22 +92,16 @@ module _ (ws : List ℕ) (i w : ℕ) (l8 : w < recordWidth) where
         go (no e) (yes z) f g = rw (ne-eqb i m e) (f z)
         go (no e) (no z) f g = rw (ne-eqb i m e, absent v i (recordAmong i cs d) (omega arith)) (g (omega (arith, indicator-other i m e)))
 
-pub laid-words : {ws text : List ℕ} {used filled : ℕ} {v : Node} {t : List ℕ} → Stores ws text used filled v t
-    → ws ≡ layout used v ++ replicate (length ws - used * recordWidth) 0
+-- The words of the records used are those of the tree's layout.
+pub laid-words : {ws text : List ℕ} {used filled : ℕ} {v : Node} {t : List ℕ} → Stores ws text used filled v t → take (used * recordWidth) ws ≡ layout used v
 unfolding word
-laid-words {ws} {text} {used} {filled} {v} k =
-    ext-getD 0 ws (layout used v ++ zs)
-    (sym (length-append (layout used v) zs ∙ omega (arith, len, length-replicate {A = ℕ} (length ws - used * recordWidth) 0, fits)))
-    (λ i l. at i (decLt (i / recordWidth) used))
+laid-words {ws} {text} {used} {filled} {v} k = ext-getD 0 (take (used * recordWidth) ws) (layout used v) (front ∙ sym len) (λ i l. at i (omega (arith, front)))
   where
-    zs : List ℕ
-    zs = replicate (length ws - used * recordWidth) 0
-
     len : length (layout used v) ≡ used * recordWidth
     len = records-length used 0 (forestOf v)
 
-    fits : used * recordWidth ≤ length ws
-    fits = omega (arith, k .holds .room)
+    front : length (take (used * recordWidth) ws) ≡ used * recordWidth
+    front = length-take-le (used * recordWidth) ws (omega (arith, k .holds .room))
 
     cell : (i w : ℕ) → w < recordWidth → i < used → word ws i w ≡ getD (recordAmong i (forestOf v) (replicate recordWidth 0)) w 0
     cell i w l u = word-among ws i w l (forestOf v) (replicate recordWidth 0) (k .holds .represents) (omega (arith, k .holds .once i u))
@@ -115,57 +109,49 @@ laid-words {ws} {text} {used} {filled} {v} k =
     index : (i : ℕ) → getD ws i 0 ≡ word ws (i / recordWidth) (i % recordWidth)
     index i = ap (λ (j : ℕ). getD ws j 0) (omega arith)
 
-    at : (i : ℕ) → Dec (i / recordWidth < used) → getD ws i 0 ≡ getD (layout used v ++ zs) i 0
-    at i (yes u) =
-        index i ∙ cell (i / recordWidth) (i % recordWidth) (omega arith) u
-        ∙ sym
-        (List·getD-append (layout used v) zs 0 i (omega (arith, len)) ∙ split
-        ∙ records-at used 0 (i / recordWidth) (i % recordWidth) (forestOf v) u (omega arith) ∙ first-one)
-      where
-        split : getD (layout used v) i 0 ≡ getD (recordsFrom used 0 (forestOf v)) (i / recordWidth * recordWidth + i % recordWidth) 0
-        split =
-            let e : i ≡ i / recordWidth * recordWidth + i % recordWidth = omega arith in
-            ap (λ (j : ℕ). getD (recordsFrom used 0 (forestOf v)) j 0) e
+    split : (i : ℕ) → getD (layout used v) i 0 ≡ getD (recordsFrom used 0 (forestOf v)) (i / recordWidth * recordWidth + i % recordWidth) 0
+    split i =
+        let e : i ≡ i / recordWidth * recordWidth + i % recordWidth = omega arith in
+        ap (λ (j : ℕ). getD (recordsFrom used 0 (forestOf v)) j 0) e
 
-        first-one : getD (recordAmong (0 + i / recordWidth) (forestOf v) (replicate recordWidth 0)) (i % recordWidth) 0
-            ≡ getD (recordAmong (i / recordWidth) (forestOf v) (replicate recordWidth 0)) (i % recordWidth) 0
-        first-one =
-            let e : 0 + i / recordWidth ≡ i / recordWidth = omega arith in
-            ap (λ (j : ℕ). getD (recordAmong j (forestOf v) (replicate recordWidth 0)) (i % recordWidth) 0) e
-    at i (no u) =
-        index i ∙ k .holds .unused (i / recordWidth) (i % recordWidth) (omega arith) (omega arith)
-        ∙ sym (shift ∙ getD-append-add (layout used v) zs (i - used * recordWidth) 0 ∙ zeros (length ws - used * recordWidth) (i - used * recordWidth))
-      where
-        shift : getD (layout used v ++ zs) i 0 ≡ getD (layout used v ++ zs) (length (layout used v) + (i - used * recordWidth)) 0
-        shift =
-            let e : i ≡ length (layout used v) + (i - used * recordWidth) = omega (arith, len) in
-            ap (λ (j : ℕ). getD (layout used v ++ zs) j 0) e
+    first-one : (i : ℕ) → getD (recordAmong (0 + i / recordWidth) (forestOf v) (replicate recordWidth 0)) (i % recordWidth) 0
+        ≡ getD (recordAmong (i / recordWidth) (forestOf v) (replicate recordWidth 0)) (i % recordWidth) 0
+    first-one i =
+        let e : 0 + i / recordWidth ≡ i / recordWidth = omega arith in
+        ap (λ (j : ℕ). getD (recordAmong j (forestOf v) (replicate recordWidth 0)) (i % recordWidth) 0) e
 
--- The outcome of an accepted reading is what stands in the buffers.
+    at : (i : ℕ) → i < used * recordWidth → getD (take (used * recordWidth) ws) i 0 ≡ getD (layout used v) i 0
+    at i l =
+        let u : i / recordWidth < used = omega arith in
+        getD-take (used * recordWidth) ws i 0 l ∙ index i ∙ cell (i / recordWidth) (i % recordWidth) (omega arith) u
+        ∙ sym (split i ∙ records-at used 0 (i / recordWidth) (i % recordWidth) (forestOf v) u (omega arith) ∙ first-one i)
+
+-- The bytes of the text that are laid.
+laid-text : {ws text : List ℕ} {used filled : ℕ} {v : Node} {t : List ℕ} → Stores ws text used filled v t → take filled text ≡ t
+laid-text {filled = filled} {t = t} k = ap (take filled) (k .full) ∙ take-at t (k .free) filled (sym (k .fill))
+
+-- The outcome of an accepted reading is what stands in the buffers once what isn't used is cleared.
 pub outcome-is : {ws text : List ℕ} {used filled : ℕ} {v : Node} {t : List ℕ} → Stores ws text used filled v t
-    → outcome (length ws) (length text) (accepted v (record { records = used; text = t })) ≡ record { answer = accepts used filled; words = ws; text = text }
+    → outcome (length ws) (length text) (accepted v (record { records = used; text = t }))
+    ≡ record { answer = accepts used filled; words = clearedFrom (used * recordWidth) ws; text = clearedFrom filled text }
 outcome-is {ws} {text} {used} {filled} {v} {t} k =
-    whole (layout used v ++ replicate (length ws - used * recordWidth) 0) (t ++ replicate (length text - length t) 0) (length t)
-    (sym (laid-words k)) (sym (k .full)) (sym (k .fill))
+    whole (layout used v) t (length t) (sym (laid-words k)) (sym (laid-text k)) (sym (k .fill))
   where
-    whole : (a b : List ℕ) (n : ℕ) → a ≡ ws → b ≡ text → n ≡ filled
-        → _≡_ {A = Outcome} (record { answer = accepts used n; words = a; text = b })
-        (record { answer = accepts used filled; words = ws; text = text })
+    whole : (a b : List ℕ) (n : ℕ) → a ≡ take (used * recordWidth) ws → b ≡ take filled text → n ≡ filled
+        → _≡_ {A = Outcome}
+        (record {
+          answer = accepts used n;
+          words = a ++ replicate (length ws - used * recordWidth) 0;
+          text = b ++ replicate (length text - n) 0;
+        })
+        (record { answer = accepts used filled; words = clearedFrom (used * recordWidth) ws; text = clearedFrom filled text })
     whole a b n p q r = rw (p, q, r)
 
--- Cleared buffers hold the Uninitialized root; and a NoValue root, once that is written.
-pub cleared : (len b : ℕ) → recordWidth ≤ len → Stores (replicate len 0) (replicate b 0) 1 0 (alone uninitialized) []
-cleared len b l = record { holds = start-holds len (replicate b 0) l; texts = tt; shaped = tt; full = whole; fill = refl }
-  where
-    whole : replicate {A = ℕ} b 0 ≡ [] ++ replicate (length (replicate {A = ℕ} b 0) - 0) 0
-    whole = let e : length (replicate {A = ℕ} b 0) - 0 ≡ b = omega (arith, length-replicate {A = ℕ} b 0) in rw e
+-- With record 0 written, the words hold a root without children: an Uninitialized one, or a NoValue.
+module _ (ws text : List ℕ) (l : recordWidth ≤ length ws) where
+  pub uninitialized-root : Stores (withRecord ws 0 (unkeyed (childless uninitializedKind)) 0) text 1 0 (alone uninitialized) []
+  uninitialized-root =
+      record { holds = start-holds ws text (childless uninitializedKind) l; texts = tt; shaped = tt; free = text; full = refl; fill = refl }
 
-pub no-value : (len b : ℕ) → recordWidth ≤ len → Stores (withValue (replicate len 0) 0 (childless noValueKind)) (replicate b 0) 1 0 (alone noValue) []
-no-value len b l =
-    record {
-      holds = value-holds 0 (recordOf bare uninitialized) nil nil here (start-holds len (replicate b 0) l) (childless noValueKind);
-      texts = tt;
-      shaped = tt;
-      full = cleared len b l .full;
-      fill = refl;
-    }
+  pub no-value-root : Stores (withRecord ws 0 (unkeyed (childless noValueKind)) 0) text 1 0 (alone noValue) []
+  no-value-root = record { holds = start-holds ws text (childless noValueKind) l; texts = tt; shaped = tt; free = text; full = refl; fill = refl }

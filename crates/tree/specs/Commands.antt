@@ -8,12 +8,12 @@ use Rattle.reading.specs.Leaves.{Leaf}
 use Rattle.refusals.specs.declared.Refusal.{Refusal}
 use Rattle.reading.specs.Charging.{Environment, Used, Made, made, refused, Rule, NodeRule}
 use Rattle.reading.specs.Adding.{appendValue, atPath}
-use Rattle.reading.specs.Scanning.{under, last, enter, needMap, needSequence, add}
+use Rattle.reading.specs.Scanning.{enter, needMap, needSequence}
 use Rattle.reading.specs.Running.{perform}
 use Rattle.tree.specs.declared.Here.{Here}
 use Rattle.tree.specs.declared.Performed.{Performed}
 use Rattle.tree.specs.declared.Performed.the-variants.{Made as MadeHere, Refused}
-use Rattle.tree.specs.Stored.{usedBy, Stands}
+use Rattle.tree.specs.Stored.{usedBy, StoredAt}
 
 -- The words, the text and the answer after a command: the tree that is made stands there with its counts, and the path
 -- leads to the record that is answered; or the answer is the refusal, and what the words and the text hold then is
@@ -21,18 +21,18 @@ use Rattle.tree.specs.Stored.{usedBy, Stands}
 pub data After (env : Environment) (ws text : List ℕ) (path : List Key) : Performed → Made Node → Type 0 where
   stood :
       {here : Here} {tree : Node} {used : Used}
-      → used .records ≡ here .records → Stands env ws text here path tree (used .text)
+      → used .records ≡ here .records → StoredAt env ws text here path tree (used .text)
       → After env ws text path (MadeHere here) (made tree used)
   stopped : {x : Refusal} → After env ws text path (Refused x) (refused x)
 
 -- A function does as a rule at a path: whatever tree stands in the words and the text and whatever path leads to the
 -- record, the words, the text and the answer are as the rule makes them, and `to path` leads to the record that is
 -- answered.
-abbrev pub Does :
+abbrev pub Performs :
     List ℕ → List ℕ → List ℕ → List ℕ → Here → (Environment → List Key → Rule Node) → (List Key → List Key) → Performed
     → Type 0
-Does ws text ws' text' here rule to r =
-    (env : Environment) (path : List Key) (tree : Node) (laid : List ℕ) → Stands env ws text here path tree laid
+Performs ws text ws' text' here rule to r =
+    (env : Environment) (path : List Key) (tree : Node) (laid : List ℕ) → StoredAt env ws text here path tree laid
     → After env ws' text' (to path) r (rule env path tree (usedBy here laid))
 
 -- The commands as rules at a path.
@@ -44,12 +44,6 @@ needsSequence env path = perform env (needSequence path)
 
 abbrev pub enters : Key → Environment → List Key → Rule Node
 enters key env path = perform env (enter path key)
-
-abbrev pub inserts : Key → Leaf → Environment → List Key → Rule Node
-inserts key leaf env path = perform env (add (under path key) leaf)
-
-abbrev pub pushes : Leaf → Environment → List Key → Rule Node
-pushes leaf env path = perform env (add (last path) leaf)
 
 -- A rule at a path of a tree.
 abbrev pub along : List Key → NodeRule → Rule Node
@@ -71,6 +65,6 @@ abbrev pub Countable : Here → ℕ → ℕ → Type 0
 Countable here m k = (here .records + m < 2 ^ 32) × (here .bytes + k < 2 ^ 32)
 
 -- What an accepted command adds at most: two records, and as many bytes of text as it was handed.
-abbrev pub Modest : Here → ℕ → Performed → Type 0
-Modest here k (MadeHere there) = (there .records ≤ here .records + 2) × (there .bytes ≤ here .bytes + k)
-Modest here k (Refused x) = Unit {0}
+abbrev pub AddsAtMost : Here → ℕ → Performed → Type 0
+AddsAtMost here k (MadeHere there) = (there .records ≤ here .records + 2) × (there .bytes ≤ here .bytes + k)
+AddsAtMost here k (Refused x) = Unit {0}

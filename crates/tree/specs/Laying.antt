@@ -1,8 +1,9 @@
 -- Document 01, 'Settings and the lent buffers': "Text is laid end to end as made". 'Decoding': it "writes into the
 -- free tail of the text slice".
+use mathlib.Core.Path.{_≡_}
 use mathlib.Core.Bool.{Bool, cond}
 use mathlib.Core.List.{List, _++_}
-use Prim.Native.Nat.{ℕ, _+_}
+use Prim.Native.Nat.{ℕ, _+_, _≤_, _<_}
 use lib.Dec.{leb}
 use lib.ListN.{length, take, drop}
 use Rattle.decode.specs.declared.Decoded.{Decoded}
@@ -20,3 +21,9 @@ layAnswer text used bytes = cond (fitsBehind text used bytes) (Yes (length bytes
 abbrev pub laid : List ℕ → ℕ → List ℕ → List ℕ
 laid text used bytes =
     cond (fitsBehind text used bytes) (take used text ++ (bytes ++ drop (used + length bytes) text)) text
+
+-- Some bytes stand behind those used, as an answer says: yes and their length, or no, as they don't fit.
+pub data LiesBehind (text : List ℕ) (used : ℕ) (bytes : List ℕ) : Decoded → Type 0 where
+  lies : used + length bytes ≤ length text → take (length bytes) (drop used text) ≡ bytes
+      → LiesBehind text used bytes (Yes (length bytes))
+  lacks : length text < used + length bytes → LiesBehind text used bytes No

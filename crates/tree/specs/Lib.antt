@@ -1,7 +1,7 @@
 pub mod Commands
 pub mod Stored
 pub mod Nodes
-pub mod Leaves
+pub mod NewValues
 pub mod Needing
 pub mod Laying
 pub mod Entering

@@ -5,14 +5,14 @@ use Rattle.records.specs.declared.store.Record.{Record}
 use Rattle.records.specs.Nodes.{Nodes, nil, node}
 use Rattle.reading.specs.Values.{Label, Row, Value, uninitialized, null, noValue, string, map, sequence}
 use Rattle.reading.specs.Values.{Forest, none, child, Node}
-use Rattle.reading.specs.Records.{kind, keyKind, keyOffset, keyLength, textOffset, textLength}
+use Rattle.reading.specs.Records.{kind, keyKind, keyOffset, keyLen, textOffset, textLen}
 
 -- The words of a key, of a value without its children, and of both.
 abbrev pub labelWords : Label → KeyWords
-labelWords label = record { kind = keyKind label; offset = keyOffset label; len = keyLength label }
+labelWords label = record { kind = keyKind label; offset = keyOffset label; len = keyLen label }
 
 abbrev pub valueWords : Value → ValueWords
-valueWords value = record { kind = kind value; offset = textOffset value; len = textLength value }
+valueWords value = record { kind = kind value; offset = textOffset value; len = textLen value }
 
 abbrev pub recordOf : Row → Value → Record
 recordOf row value = record { key = labelWords (row .label); value = valueWords value }

@@ -2,7 +2,7 @@
 use mathlib.Core.Path.{_≡_}
 use mathlib.Core.List.{List, _++_}
 use Prim.Native.Nat.{ℕ, _-_}
-use lib.ListN.{length, replicate}
+use lib.ListN.{length, take, replicate}
 use Rattle.key.specs.Keys.{Key}
 use Rattle.records.specs.Nodes.{Nodes, node, Context, plug}
 use Rattle.records.specs.Holds.{Holds}
@@ -15,18 +15,23 @@ use Rattle.reading.specs.Reading.{lentBy, lending}
 use Rattle.tree.specs.declared.Here.{Here}
 use Rattle.tree.specs.Nodes.{recordOf, below, rooted}
 
--- Document 01, 'Settings and the lent buffers': the words hold a tree, in so many records, and the text holds what is
--- laid for it.
+-- Document 01, 'Settings and the lent buffers': the words hold a tree, in so many records, and the text starts with
+-- what is laid for it. What the words and the text hold behind that is free.
 pub record Stores (ws text : List ℕ) (used filled : ℕ) (tree : Node) (laid : List ℕ) : Type 0 where
-  -- the tree's records, and zero behind them
+  -- the tree's records
   pub holds : Holds ws text used (rooted tree)
   -- each key's and value's text where its offset says
   pub texts : Laid laid (tree .value)
   -- "Map children stand in key order"
   pub shaped : Shaped (tree .value)
-  -- zero behind the text too
-  pub full : text ≡ laid ++ replicate (length text - length laid) 0
+  -- the text: what is laid, and then what is free
+  pub free : List ℕ
+  pub full : text ≡ laid ++ free
   pub fill : filled ≡ length laid
+
+-- "what an accepted reading doesn't use is zero": the first n stay, and zero stands behind them.
+abbrev pub clearedFrom : ℕ → List ℕ → List ℕ
+clearedFrom n xs = take n xs ++ replicate (length xs - n) 0
 
 -- The path leads to record n in the tree ("`&mut ParsedValue` becomes a record number"; in the definitions it is a
 -- path). The row and the value there stand in a tree that is `back` of them. `back` of another value with that row is
@@ -54,15 +59,15 @@ abbrev pub usedBy : Here → List ℕ → Used
 usedBy here laid = record { records = here .records; text = laid }
 
 -- A tree stands in what is lent, with these counts, and the path leads to the record that a command is for.
-pub record Stands
+pub record StoredAt
     (env : Environment) (ws text : List ℕ) (here : Here) (path : List Key) (tree : Node) (laid : List ℕ) : Type 0 where
   pub lent-is : env .lent ≡ lentBy ws text
   pub stores : Stores ws text (here .records) (here .bytes) tree laid
   pub leads : Leads path tree (here .node)
 
 -- Some tree stands there.
-pub record Standing (ws text : List ℕ) (here : Here) : Type 0 where
+pub record SomeStoredAt (ws text : List ℕ) (here : Here) : Type 0 where
   pub path : List Key
   pub tree : Node
   pub laid : List ℕ
-  pub stands : Stands (lending (lentBy ws text)) ws text here path tree laid
+  pub stored : StoredAt (lending (lentBy ws text)) ws text here path tree laid

@@ -1,29 +1,19 @@
-// A value added: at a record, last in a sequence, under a key.
+// A value added at a record.
 ghost use mathlib.Core.Path.{_≡_};
-ghost use Prim.Native.Nat.{_+_};
 ghost use lib.ListN.{length};
-ghost use Rattle.records.specs.Keys.{meantKey};
-ghost use Rattle.tree.specs.Leaves.{leafOf, newValueWords};
-ghost use Rattle.tree.specs.Stored.{Standing};
-ghost use Rattle.tree.specs.Commands.{Does, appends, pushes, inserts, stays, further, Countable};
+ghost use Rattle.reading.specs.Leaves.{leafOf};
+ghost use Rattle.tree.specs.NewValues.{newValueWords};
+ghost use Rattle.tree.specs.Stored.{SomeStoredAt};
+ghost use Rattle.tree.specs.Commands.{Performs, appends, stays, Countable, AddsAtMost};
 use crate::Here;
 use crate::Performed;
-use crate::entering;
 use crate::laying;
-use crate::needing;
 use decode::Decoded;
-use records::adding;
-use records::adding::Appended;
-use records::keys::RawKey;
+use reading::LeafKind;
+use records::appending;
+use records::appending::Appended;
 use records::store::ValueWords;
 use refusals::Refusal;
-
-// The kind of a value that is added; a String is a raw segment, which stands beside it, decoded.
-pub enum LeafKind {
-    Null,
-    NoValue,
-    String,
-}
 
 // The words of a value whose text, if it has any, is laid at an offset with a length.
 fn value_words(kind: LeafKind, offset: u32, len: u32) -> ValueWords
@@ -58,14 +48,15 @@ pub fn append_value(
     kind: LeafKind,
     value: &[u8],
 ) -> Performed
-    requires { ⌜ Standing (now words) (now text) here ⌝ ∗ ⌜ Countable here 2 (length (now value)) ⌝ }
-    ensures { λ r. ⌜ Does (now (words .entry)) (now (text .entry)) (now (words .exit)) (now (text .exit)) here
-        (appends (leafOf kind (now (value .entry)))) stays r ⌝ }
+    requires { ⌜ SomeStoredAt (now words) (now text) here ⌝ ∗ ⌜ Countable here 2 (length (now value)) ⌝ }
+    ensures performs { λ r. ⌜ Performs (now (words .entry)) (now (text .entry)) (now (words .exit)) (now (text .exit))
+        here (appends (leafOf kind (now (value .entry)))) stays r ⌝ }
+    ensures adds { λ r. ⌜ AddsAtMost here (length (now (value .entry))) r ⌝ }
 {
     match laying::lay_value(kind, value, text, here.bytes as usize) {
         Decoded::Yes(len) => {
             let new = value_words(kind, here.bytes, len as u32);
-            match adding::append(words, text, here.records, here.node, new) {
+            match appending::append(words, text, here.records, here.node, new) {
                 Appended::Used(records) => Performed::Made(Here {
                     records,
                     bytes: here.bytes + len as u32,
@@ -76,51 +67,10 @@ pub fn append_value(
         }
         Decoded::No => {
             let new = value_words(kind, 0, 0);
-            match adding::append(words, text, here.records, here.node, new) {
+            match appending::append(words, text, here.records, here.node, new) {
                 Appended::Used(_) => Performed::Refused(Refusal::TooLittleText),
                 Appended::TooFew => Performed::Refused(Refusal::TooFewRecords),
             }
         }
-    }
-}
-
-// Adds a value last in the sequence that is needed at the record. After a refusal what the words and the text hold is
-// free.
-pub fn push(
-    words: &mut [u32],
-    text: &mut [u8],
-    here: Here,
-    kind: LeafKind,
-    value: &[u8],
-) -> Performed
-    requires { ⌜ Standing (now words) (now text) here ⌝ ∗ ⌜ Countable here 2 (length (now value)) ⌝ }
-    ensures { λ r. ⌜ Does (now (words .entry)) (now (text .entry)) (now (words .exit)) (now (text .exit)) here
-        (pushes (leafOf kind (now (value .entry)))) stays r ⌝ }
-{
-    match needing::expect_sequence(words, here) {
-        Performed::Made(there) => append_value(words, text, there, kind, value),
-        Performed::Refused(refusal) => Performed::Refused(refusal),
-    }
-}
-
-// Adds a value under a key of the map that is needed at the record: the key is entered and the value added there. A
-// new key's child is Uninitialized and so becomes the value. After a refusal what the words and the text hold is free.
-pub fn insert_unique(
-    words: &mut [u32],
-    text: &mut [u8],
-    here: Here,
-    key: RawKey,
-    raw: &[u8],
-    kind: LeafKind,
-    value: &[u8],
-) -> Performed
-    requires { ⌜ Standing (now words) (now text) here ⌝ ∗ ⌜ Countable here 4 (length (now raw) + length (now value)) ⌝ }
-    ensures { λ r. ⌜ Does (now (words .entry)) (now (text .entry)) (now (words .exit)) (now (text .exit)) here
-        (inserts (meantKey key (now (raw .entry))) (leafOf kind (now (value .entry))))
-        (further (meantKey key (now (raw .entry)))) r ⌝ }
-{
-    match entering::enter(words, text, here, key, raw) {
-        Performed::Made(there) => append_value(words, text, there, kind, value),
-        Performed::Refused(refusal) => Performed::Refused(refusal),
     }
 }

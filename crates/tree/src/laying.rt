@@ -5,11 +5,12 @@ ghost use lib.ListN.{length};
 ghost use Rattle.decode.specs.Decoding.{decoded};
 ghost use Rattle.records.specs.Keys.{meantKey};
 ghost use Rattle.reading.specs.Adding.{keyText, leafText};
-ghost use Rattle.tree.specs.Leaves.{leafOf};
+ghost use Rattle.reading.specs.Leaves.{leafOf};
 ghost use Rattle.tree.specs.Laying.{layAnswer, laid};
-use crate::adding::LeafKind;
 use decode::Decoded;
-use records::keys::RawKey;
+use key::KeyKind;
+use reading::LeafKind;
+use records::keys;
 
 // Decodes raw into the free tail of the text. What is used stays, and all of it where the bytes don't fit.
 fn lay(raw: &[u8], text: &mut [u8], used: usize) -> Decoded
@@ -21,16 +22,16 @@ fn lay(raw: &[u8], text: &mut [u8], used: usize) -> Decoded
 }
 
 // Lays the text of a key, which only a String has. What is used stays.
-pub(crate) fn lay_key(key: RawKey, raw: &[u8], text: &mut [u8], used: usize) -> Decoded
+pub(crate) fn lay_key(key: KeyKind, raw: &[u8], text: &mut [u8], used: usize) -> Decoded
     requires { ⌜ used ≤ length (now text) ⌝ }
     ensures answer { λ r. ⌜ r ≡ layAnswer (now (text .entry)) used (keyText (meantKey key (now (raw .entry)))) ⌝ }
     ensures output { λ _. ⌜ now (text .exit) ≡ laid (now (text .entry)) used
         (keyText (meantKey key (now (raw .entry)))) ⌝ }
 {
-    match key {
-        RawKey::Int(_) => Decoded::Yes(0),
-        RawKey::String => lay(raw, text, used),
+    if keys::is_int(key) {
+        return Decoded::Yes(0);
     }
+    lay(raw, text, used)
 }
 
 // Lays the text of a value, which only a String has. What is used stays.

@@ -5,7 +5,7 @@ ghost use Prim.Native.Nat.{ℕ, _<_};
 ghost use Rattle.row.specs.Row.{kindWord, mapKind, sequenceKind};
 ghost use Rattle.row.specs.Words.{recordCount, word};
 ghost use Rattle.tree.specs.Needing.{mapAnswer, sequenceAnswer, becomes};
-ghost use Rattle.tree.specs.Commands.{Does, needsMap, needsSequence, stays};
+ghost use Rattle.tree.specs.Commands.{Performs, needsMap, needsSequence, stays};
 use crate::Here;
 use crate::Performed;
 use records::store;
@@ -17,7 +17,7 @@ pub fn expect_map(words: &mut [u32], here: Here) -> Performed
     requires { ⌜ here .node < recordCount (now words) ⌝ }
     ensures words { λ r. ⌜ (r ≡ mapAnswer here (word (now (words .entry)) (here .node) kindWord))
         × (now (words .exit) ≡ becomes (now (words .entry)) (here .node) mapKind) ⌝ }
-    ensures does { λ r. ⌜ ((text : List ℕ) → Does (now (words .entry)) text (now (words .exit)) text here
+    ensures performs { λ r. ⌜ ((text : List ℕ) → Performs (now (words .entry)) text (now (words .exit)) text here
         needsMap stays r) ⌝ }
 {
     let kind = row::get_word(words, here.node, row::KIND);
@@ -48,7 +48,7 @@ pub fn expect_sequence(words: &mut [u32], here: Here) -> Performed
     requires { ⌜ here .node < recordCount (now words) ⌝ }
     ensures words { λ r. ⌜ (r ≡ sequenceAnswer here (word (now (words .entry)) (here .node) kindWord))
         × (now (words .exit) ≡ becomes (now (words .entry)) (here .node) sequenceKind) ⌝ }
-    ensures does { λ r. ⌜ ((text : List ℕ) → Does (now (words .entry)) text (now (words .exit)) text here
+    ensures performs { λ r. ⌜ ((text : List ℕ) → Performs (now (words .entry)) text (now (words .exit)) text here
         needsSequence stays r) ⌝ }
 {
     let kind = row::get_word(words, here.node, row::KIND);

@@ -1,3 +1,4 @@
+-- Before each turn the first i bytes are zero and the rest as they were; i rises to the length, where all are zero.
 use Prim.Native.Nat.{_-_}
 use native.Mathlib.Omega.{arith}
 use lib.ListN.{length, length-set}

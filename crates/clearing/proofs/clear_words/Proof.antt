@@ -1,3 +1,4 @@
+-- Before each turn the first i words are zero and the rest as they were; i rises to the length, where all are zero.
 use borrow.Author.Needs.{needs}
 use Prim.Native.Nat.{_-_}
 use native.Mathlib.Omega.{arith}

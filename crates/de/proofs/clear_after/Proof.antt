@@ -1,3 +1,4 @@
+-- The test against 3 is the one of the definitions: up to 3 the list stays, and above it each word is made zero.
 use borrow.Author.Tests.{le-leb, lt-leb}
 use borrow.Author.Needs.{needs}
 use Rattle.de.proofs.clear_after.Statement.{statement}

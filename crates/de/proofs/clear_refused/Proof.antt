@@ -1,3 +1,4 @@
+-- Elements leave the list as it was written, and a refusal makes each of its words zero, as the definitions say.
 use borrow.Author.Needs.{needs}
 use Rattle.de.proofs.clear_refused.Statement.{statement}
 use Rattle.de.proofs.clear_refused.Tie as tie

@@ -1,3 +1,4 @@
+-- Number 0 tells an accepted reading: its words can be read as a tree, and hold a record for each listed element.
 use Rattle.de.proofs.AfterReading.{readable-after, few-listed, list-accepted, list-refused}
 use borrow.Author.Needs.{needs}
 use Rattle.de.proofs.deserialize_seq.Statement.{statement}
@@ -29,14 +30,17 @@ returns c =
     let at-answer = c .before .before .before .before .before .before .before in
     let at-parse = at-answer .before .before .before .before .before in
     let start = at-parse .before .before .before .before .before .before .before .before in
-    list-refused (start .args .config) (start .args .input .now) (start .args .words .now) (start .args .text .now) _ _ (at-parse .parse .result) (at-answer .answer .ensures) (at-parse .parse .ensures) (c .before .before .before .before .before .if1 .taken) (start .args .duplicates) (start .args .name .now) (start .args .list .now) _ (c .unread .ensures) (c .before .before .before .clear-after .ensures)
+    list-refused (start .args .config) (start .args .input .now) (start .args .words .now) (start .args .text .now) _ _ (at-parse .parse .result)
+    (at-answer .answer .ensures) (at-parse .parse .ensures) (c .before .before .before .before .before .if1 .taken) (start .args .duplicates)
+    (start .args .name .now) (start .args .list .now) _ (c .unread .ensures) (c .before .before .before .clear-after .ensures)
 
 field-list-requires : tie.Need-field-list-requires
 field-list-requires c κs =
     let at-answer = c .before .before .before .before .before in
     let at-parse = at-answer .before .before .before .before .before in
     let start = at-parse .before .before .before .before .before .before .before .before in
-    readable-after (start .args .config) (start .args .input .now) (start .args .words .now) (start .args .text .now) _ _ (at-parse .parse .result) (at-answer .answer .ensures) (at-parse .parse .ensures) (c .before .before .before .if1 .left)
+    readable-after (start .args .config) (start .args .input .now) (start .args .words .now) (start .args .text .now) _ _ (at-parse .parse .result)
+    (at-answer .answer .ensures) (at-parse .parse .ensures) (c .before .before .before .if1 .left)
 
 clear-refused-requires : tie.Need-clear-refused-requires
 clear-refused-requires c κs = search needs
@@ -46,7 +50,9 @@ list-answer-requires c κs =
     let at-answer = c .before .before .before .before .before .before .before .before .before .before .before .before in
     let at-parse = at-answer .before .before .before .before .before in
     let start = at-parse .before .before .before .before .before .before .before .before in
-    few-listed (start .args .config) (start .args .input .now) (start .args .words .now) (start .args .text .now) _ _ (at-parse .parse .result) (at-answer .answer .ensures) (at-parse .parse .ensures) (c .before .before .before .before .before .before .before .before .before .before .if1 .left) (start .args .duplicates) (start .args .name .now) _ (c .before .before .before .before .before .before .field-list .ensures)
+    few-listed (start .args .config) (start .args .input .now) (start .args .words .now) (start .args .text .now) _ _ (at-parse .parse .result)
+    (at-answer .answer .ensures) (at-parse .parse .ensures) (c .before .before .before .before .before .before .before .before .before .before .if1 .left)
+    (start .args .duplicates) (start .args .name .now) _ (c .before .before .before .before .before .before .field-list .ensures)
 
 same-length-4 : tie.Need-same-length-4
 same-length-4 c = search needs
@@ -62,7 +68,11 @@ returns-2 c =
     let at-answer = c .before .before .before .before .before .before .before .before .before .before .before .before .before in
     let at-parse = at-answer .before .before .before .before .before in
     let start = at-parse .before .before .before .before .before .before .before .before in
-    list-accepted (start .args .config) (start .args .input .now) (start .args .words .now) (start .args .text .now) _ _ (at-parse .parse .result) (at-answer .answer .ensures) (at-parse .parse .ensures) (c .before .before .before .before .before .before .before .before .before .before .before .if1 .left) (start .args .duplicates) (start .args .name .now) (start .args .list .now) _ _ (c .list-answer .ensures) (c .before .before .before .before .before .before .before .field-list .ensures) (c .before .before .before .clear-refused .ensures)
+    list-accepted (start .args .config) (start .args .input .now) (start .args .words .now) (start .args .text .now) _ _ (at-parse .parse .result)
+    (at-answer .answer .ensures) (at-parse .parse .ensures)
+    (c .before .before .before .before .before .before .before .before .before .before .before .if1 .left) (start .args .duplicates) (start .args .name .now)
+    (start .args .list .now) _ _ (c .list-answer .ensures) (c .before .before .before .before .before .before .before .field-list .ensures)
+    (c .before .before .before .clear-refused .ensures)
 
 pub deserialize-seq-spec : {M : Type 1} → statement M
 deserialize-seq-spec =

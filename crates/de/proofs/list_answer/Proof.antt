@@ -1,3 +1,4 @@
+-- There are no more elements than records, so their count fits a u32; a refusal gives its number.
 use native.Mathlib.Omega.{arith}
 use borrow.Author.Needs.{needs}
 use Rattle.de.proofs.list_answer.Statement.{statement}

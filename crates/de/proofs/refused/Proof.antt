@@ -1,3 +1,4 @@
+-- The number is the code of the refusal, and place, offset and length are 0; only the reading's counts stay.
 use mathlib.Core.Path.{_∙_}
 use borrow.Author.Needs.{needs}
 use Rattle.de.proofs.refused.Statement.{statement}

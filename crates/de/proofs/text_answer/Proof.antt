@@ -1,3 +1,4 @@
+-- Both variants answer as the definitions do: a text gives its offset and length, a refusal its number.
 use borrow.Author.Needs.{needs}
 use Rattle.de.proofs.text_answer.Statement.{statement}
 use Rattle.de.proofs.text_answer.Tie as tie

@@ -1,3 +1,4 @@
+-- The payload of a yes is the length, and a no has 0.
 use borrow.Author.Needs.{needs}
 use Rattle.decode.proofs.answered_len.Statement.{statement}
 use Rattle.decode.proofs.answered_len.Tie as tie

@@ -1,3 +1,4 @@
+-- Its tests are those of `digitOf`, one after the other.
 use borrow.Author.Tests.{lt-ltb, le-ltb, le-leb, lt-leb}
 use Rattle.decode.specs.Hex.{digitOf}
 use borrow.Author.Needs.{needs}

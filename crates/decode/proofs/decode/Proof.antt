@@ -1,3 +1,4 @@
+-- Bytes that fit are written, and where they don't nothing is.
 use Prim.Native.Nat.{ℕ}
 use mathlib.Core.Path.{sym, ap, _∙_}
 use mathlib.Core.Bool.{true}

@@ -1,3 +1,4 @@
+-- What is counted and the length of what is left from `i` on give the length of the whole.
 use Prim.Native.Nat.{_-_}
 use lib.ListN.{length}
 use native.Mathlib.Omega.{arith}

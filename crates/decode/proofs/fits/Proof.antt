@@ -1,3 +1,4 @@
+-- Decoding never lengthens, and what may not fit is counted.
 use lib.ListN.{length}
 use Rattle.decode.specs.Decoding.{decoded}
 use native.Mathlib.Omega.{arith}

@@ -1,7 +1,9 @@
+-- The bytes are plain if those from `i` on are: so after the blocks at the front, and after each plain byte.
 use Prim.Native.Nat.{_-_}
 use lib.ListN.{length}
 use native.Mathlib.Omega.{arith}
-use Rattle.decode.proofs.Loops.{Looking, looking-start, looking-done, looking-plus, looking-percent, looking-more}
+use borrow.Author.Needs.{needs}
+use Rattle.decode.proofs.Plain.{Looking, looking-start, looking-done, looking-plus, looking-percent, looking-more}
 use Rattle.decode.proofs.is_plain.Statement.{statement}
 use Rattle.decode.proofs.is_plain.Tie as tie
 
@@ -11,8 +13,11 @@ Inv-loop raw i₀ i = Looking raw i
 abbrev μ-loop : tie.MeasureT-loop
 μ-loop raw i₀ i = length raw - i
 
+plain-blocks-requires : tie.Need-plain-blocks-requires Inv-loop μ-loop
+plain-blocks-requires c κs = search needs
+
 loop-holds : tie.Need-loop-holds Inv-loop μ-loop
-loop-holds c = looking-start _
+loop-holds c = looking-start (c .plain-blocks .ensures)
 
 shared-slice-read-b : tie.Need-shared-slice-read-b Inv-loop μ-loop
 shared-slice-read-b c = omega arith
@@ -41,6 +46,7 @@ is-plain-spec =
     (tie.spec
     Inv-loop
     μ-loop
+    plain-blocks-requires
     loop-holds
     shared-slice-read-b
     returns

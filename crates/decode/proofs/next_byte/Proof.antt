@@ -1,3 +1,4 @@
+-- A byte to be swallowed stays, a '%' is a step of its own, and any other byte is itself or a space.
 use native.Mathlib.Omega.{arith}
 use mathlib.Core.Path.{_≡_}
 use Rattle.decode.proofs.Steps.{swallowed, unescaped}

@@ -1,3 +1,4 @@
+-- Each return is a case of `decoded` at a '%', by the tests that led there.
 use native.Mathlib.Omega.{arith}
 use Rattle.decode.proofs.Steps.{at-the-end, first-not-hex, second-not-hex, escape}
 use borrow.Author.Needs.{needs}

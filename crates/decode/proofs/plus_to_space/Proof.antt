@@ -1,3 +1,4 @@
+-- Its test is that of `plusToSpace`.
 use borrow.Author.Tests.{eq-eqb, ne-eqb}
 use Rattle.decode.proofs.plus_to_space.Statement.{statement}
 use Rattle.decode.proofs.plus_to_space.Tie as tie

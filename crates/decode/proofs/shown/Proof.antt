@@ -1,3 +1,4 @@
+-- Its tests are those of `shownOf`, and taking more bytes than there are takes all.
 use Prim.Native.Nat.{_-_}
 use mathlib.Core.Path.{_≡_, sym, _∙_}
 use native.Mathlib.Omega.{arith}

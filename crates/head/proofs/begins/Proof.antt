@@ -1,3 +1,4 @@
+-- Whether the rest from i on begins with the text's rest is the answer; i rises to the text's end, where it does.
 use mathlib.Core.Path.{_≡_, refl, sym, _∙_}
 use Prim.Native.Nat.{_-_}
 use native.Mathlib.Omega.{arith}

@@ -1,3 +1,4 @@
+-- i and the number of digits that follow at i make up all of them; i rises until none follows, and is the count then.
 use mathlib.Core.Path.{_≡_, ap}
 use Prim.Native.Nat.{_+_, _-_, _≤_}
 use native.Mathlib.Omega.{arith}

@@ -1,3 +1,4 @@
+-- Each digit is at most 9, so nothing overflows, and times ten plus the next is how the value is defined.
 use native.Mathlib.Omega.{arith}
 use Rattle.head.proofs.Heads.{value-one, value-two, value-three}
 use borrow.Author.Needs.{needs}

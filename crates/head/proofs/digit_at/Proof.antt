@@ -1,3 +1,4 @@
+-- A digit is from `0` to `9`, so taking `0` from it never falls below zero and leaves at most 9.
 use mathlib.Core.Path.{refl}
 use native.Mathlib.Omega.{arith}
 use Rattle.head.proofs.Heads.{digit-bounds}

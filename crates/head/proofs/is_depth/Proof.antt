@@ -1,3 +1,4 @@
+-- None and more than three are no depth, one digit always is, and two or three are unless the first is a zero.
 use native.Mathlib.Omega.{arith}
 use Rattle.head.proofs.Heads.{depth-none, depth-four, depth-one, depth-more}
 use Rattle.head.proofs.is_depth.Statement.{statement}
@@ -16,7 +17,9 @@ shared-slice-read-result : tie.Need-shared-slice-read-result
 shared-slice-read-result c = omega arith
 
 returns-4 : tie.Need-returns-4
-returns-4 c = depth-more (c .before .before .before .before .args .digits .now) (c .before .before .before .if1 .left) (c .before .before .if2 .left) (c .before .if3 .left)
+returns-4 c =
+    depth-more (c .before .before .before .before .args .digits .now) (c .before .before .before .if1 .left) (c .before .before .if2 .left)
+    (c .before .if3 .left)
 
 pub is-depth-spec : {M : Type 1} → statement M
 is-depth-spec = tie.close (tie.spec returns returns-2 returns-3 shared-slice-read-result returns-4)

@@ -1,3 +1,4 @@
+-- The counted bytes are the leading digits, and a depth has one to three of them, so their value can be computed.
 use native.Mathlib.Omega.{arith}
 use borrow.Author.Tests.{not-true, not-false}
 use Rattle.head.proofs.Heads.{no-depth, depth-digits, a-depth}

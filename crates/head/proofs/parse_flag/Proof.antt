@@ -1,3 +1,4 @@
+-- The two flags are tried in the order of the definition, and what begins with neither is bad.
 use mathlib.Core.Path.{refl, sym, _∙_}
 use Rattle.head.specs.Heads.{flagIn}
 use Rattle.head.proofs.parse_flag.Statement.{statement}
@@ -21,11 +22,13 @@ begins-requires-2 c κs = tt
 
 returns-2 : tie.Need-returns-2
 unfolding flagIn
-returns-2 c = rw (sym (c .before .before .before .before .begins .ensures) ∙ c .before .before .before .if1 .left, sym (c .before .begins2 .ensures) ∙ c .if2 .taken)
+returns-2 c =
+    rw (sym (c .before .before .before .before .begins .ensures) ∙ c .before .before .before .if1 .left, sym (c .before .begins2 .ensures) ∙ c .if2 .taken)
 
 returns-3 : tie.Need-returns-3
 unfolding flagIn
-returns-3 c = rw (sym (c .before .before .before .before .begins .ensures) ∙ c .before .before .before .if1 .left, sym (c .before .begins2 .ensures) ∙ c .if2 .left)
+returns-3 c =
+    rw (sym (c .before .before .before .before .begins .ensures) ∙ c .before .before .before .if1 .left, sym (c .before .begins2 .ensures) ∙ c .if2 .left)
 
 pub parse-flag-spec : {M : Type 1} → statement M
 parse-flag-spec =

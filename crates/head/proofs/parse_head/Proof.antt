@@ -1,3 +1,4 @@
+-- Bytes that begin with `depth=` have at least its 6 bytes, so what stands behind them can be read on.
 use mathlib.Core.Path.{refl}
 use borrow.Author.Tests.{not-true, not-false}
 use native.Mathlib.Omega.{arith}

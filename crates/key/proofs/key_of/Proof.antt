@@ -1,3 +1,4 @@
+-- Up to i all are digits of that value, at most a u32; another byte or a greater value makes a String, the end an Int.
 use native.Mathlib.Omega.{arith}
 use Prim.Native.Nat.{_-_}
 use lib.ListN.{length}

@@ -1,3 +1,4 @@
+-- What is lent has the fixed sizes that a reply needs, by the lengths of the arrays.
 use mathlib.Core.Path.{refl}
 use borrow.Author.Needs.{needs}
 use Rattle.list.proofs.main.Statement.{statement}

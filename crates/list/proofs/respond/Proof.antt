@@ -1,3 +1,4 @@
+-- A good head starts the query string inside the input; a bad head's line is short, so the output holds it whole.
 use native.Mathlib.Omega.{arith}
 use Rattle.list.proofs.Replies.{written, start-inside, bad-reply, good-reply}
 use borrow.Author.Needs.{needs}

@@ -1,3 +1,4 @@
+-- The output has room for the listing of any reading into the lent records, so the listing is written whole.
 use native.Mathlib.Omega.{arith}
 use borrow.Author.Needs.{needs}
 use Rattle.list.proofs.Replies.{listing-written}

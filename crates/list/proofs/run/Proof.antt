@@ -1,3 +1,4 @@
+-- The count is the length of a reply that the output holds whole, so what is printed lies in the output.
 use Rattle.list.proofs.Replies.{count-inside}
 use borrow.Author.Needs.{needs}
 use Rattle.list.proofs.run.Statement.{statement}

@@ -1,3 +1,4 @@
+-- The answer's lines and then the values' are the listing, which fills the output; its end tells whether it fits.
 use mathlib.Core.Path.{_∙_}
 use native.Mathlib.Omega.{arith}
 use borrow.Author.Needs.{needs}

@@ -1,3 +1,4 @@
+-- One text from place 0 on fills the output as that text does, and its end tells whether it fits.
 use mathlib.Core.Path.{_∙_}
 use borrow.Author.Needs.{needs}
 use lib.ListN.{length}

@@ -1,3 +1,4 @@
+-- The four numbers' lines follow each other from place 0 on, each where the one before ends.
 use borrow.Author.Needs.{needs}
 use Rattle.output.proofs.Pages.{puts-then}
 use Rattle.listing.specs.Listing.{answerLines}

@@ -1,3 +1,4 @@
+-- The place is inside the output or past it, by the same comparison as in the definition.
 use borrow.Author.Tests.{le-leb, lt-leb}
 use Rattle.output.proofs.answer_at.Statement.{statement}
 use Rattle.output.proofs.answer_at.Tie as tie

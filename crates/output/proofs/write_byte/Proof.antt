@@ -1,3 +1,4 @@
+-- With room the byte stands at its place; without, nothing changes and the place past the end says so.
 use native.Mathlib.Omega.{arith}
 use Rattle.output.proofs.Pages.{byte-fits, byte-cut}
 use borrow.Author.Needs.{needs}

@@ -1,3 +1,4 @@
+-- Writing the bytes from i on gives what writing all from the start would; i rises to the end, where none are left.
 use Rattle.laws.proofs.Lists.{drop-1}
 use Rattle.output.proofs.Pages.{Putting, putting-start, putting-more, putting-done}
 use Prim.Native.Nat.{_-_}

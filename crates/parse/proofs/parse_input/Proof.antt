@@ -1,3 +1,4 @@
+-- Refusals 1 to 3 stand against the input in their order, and else it is read.
 use mathlib.Core.Path.{sym, _∙_}
 use native.Mathlib.Omega.{arith}
 use borrow.Author.Needs.{needs}
@@ -32,8 +33,8 @@ returns-2 c =
 has-room-requires : tie.Need-has-room-requires
 has-room-requires c κs = search needs
 
-parse-cleared-requires : tie.Need-parse-cleared-requires
-parse-cleared-requires c κs =
+parse-lent-requires : tie.Need-parse-lent-requires
+parse-lent-requires c κs =
     let at-has-room = c .before .before .before in
     let at-if2 = at-has-room .before .before in
     let at-is-too-long = at-if2 .before in
@@ -50,15 +51,15 @@ same-length-2 c = search needs
 
 returns-3 : tie.Need-returns-3
 returns-3 c =
-    let at-parse-cleared = c .before .before .before .before in
-    let at-if3 = at-parse-cleared .before .before .before in
+    let at-parse-lent = c .before .before .before .before in
+    let at-if3 = at-parse-lent .before .before .before in
     let at-has-room = at-if3 .before in
     let at-if2 = at-has-room .before .before in
     let at-is-too-long = at-if2 .before in
     let at-if1 = at-is-too-long .before in
     let at-is-too-deep = at-if1 .before in
     let start = at-is-too-deep .before .before .before .before in
-    at-parse-cleared .parse-cleared .ensures ∙ is-read (start .args .config) (start .args .input .now) (start .args .words .now)
+    at-parse-lent .parse-lent .ensures ∙ is-read (start .args .config) (start .args .input .now) (start .args .words .now)
     (start .args .text .now) (sym (at-is-too-deep .is-too-deep .ensures) ∙ at-if1 .if1 .left) (sym
     (at-is-too-long .is-too-long .ensures) ∙ at-if2 .if2 .left)
     (omega (arith, has-records (start .args .words .now) (at-has-room .has-room .ensures) (at-if3 .if3 .taken)))
@@ -86,7 +87,7 @@ parse-input-spec =
     is-too-long-requires
     returns-2
     has-room-requires
-    parse-cleared-requires
+    parse-lent-requires
     same-length
     same-length-2
     returns-3

@@ -1,16 +1,35 @@
+-- By what the reading of the pairs answers: the outcome of the tree that stands, or of the refusal.
 use native.Mathlib.Omega.{arith}
-use Rattle.parse.proofs.Outcomes.{start-ready, some-accepted, place-inside, some-refused}
+use Rattle.parse.proofs.Outcomes.{start-ready, used-inside, some-accepted, place-inside, some-refused}
 use borrow.Author.Needs.{needs}
 use Rattle.parse.proofs.parse_some.Statement.{statement}
 use Rattle.parse.proofs.parse_some.Tie as tie
 
+write-root-requires : tie.Need-write-root-requires
+write-root-requires c κs = search needs
+
 parse-pairs-requires : tie.Need-parse-pairs-requires
 parse-pairs-requires c κs =
-    let start = c .before .before .before .before .before in
-    start-ready (start .args .config) (start .pre .1) (start .pre .2) (start .pre .3) (start .pre .4)
+    let at-write-root = c .before .before .before .before in
+    let start = at-write-root .before .before .before .before .before in (
+      start-ready (start .args .config) (start .args .input .now) (start .args .words .now) (start .args .text .now) (start .pre .1) (start .pre .2)
+          (at-write-root .write-root .ensures),
+      omega (arith, start .pre .1),
+    )
 
 enum-known-here : tie.Need-enum-known-here
 enum-known-here c = search needs
+
+clear-unused-requires : tie.Need-clear-unused-requires
+clear-unused-requires c κs =
+    let at-here = c .before .before .before in
+    let at-parse-pairs = at-here .before .before .before .before .before .before in
+    let at-write-root = at-parse-pairs .before .before .before .before .before in
+    let start = at-write-root .before .before .before .before .before in
+    used-inside (start .args .config) (start .args .input .now) (start .args .words .now) (start .args .text .now) (start .pre .1) (start .pre .2)
+    (at-write-root .write-root .ensures) (start .pre .0) _ _
+    (at-parse-pairs .parse-pairs .kept .1 .1 .0) (at-parse-pairs .parse-pairs .kept .1 .1 .1 .0) (at-parse-pairs .parse-pairs .ensures)
+    (at-here .here .given .1)
 
 enum-known-refusal : tie.Need-enum-known-refusal
 enum-known-refusal c = search needs
@@ -18,10 +37,12 @@ enum-known-refusal c = search needs
 cast-at : tie.Need-cast-at
 cast-at c =
     let at-parse-pairs = c .before .before .before .before .before .before .before in
-    let start = at-parse-pairs .before .before .before .before .before .before in
+    let at-write-root = at-parse-pairs .before .before .before .before .before in
+    let start = at-write-root .before .before .before .before .before in
     omega (
       arith,
-      place-inside (start .args .config) (start .pre .1) (start .pre .2) (start .pre .3) (start .pre .4) (start .pre .0) _ _
+      place-inside (start .args .config) (start .args .input .now) (start .args .words .now) (start .args .text .now) (start .pre .1) (start .pre .2)
+          (at-write-root .write-root .ensures) (start .pre .0) _ _
           (at-parse-pairs .parse-pairs .kept .1 .1 .0) (at-parse-pairs .parse-pairs .kept .1 .1 .1 .0) (at-parse-pairs .parse-pairs .ensures)
           (c .before .refusal .given .1),
     )
@@ -40,11 +61,15 @@ same-length-2 c = search needs
 
 returns : tie.Need-returns
 returns c =
-    let at-parse-pairs = c .before .before .before .before .before .before .before in
-    let start = at-parse-pairs .before .before .before .before .before .before in
-    some-accepted (start .args .config) (start .pre .1) (start .pre .2) (start .pre .3) (start .pre .4) (start .pre .0) _ _
+    let at-clear-unused = c .before .before .before .before in
+    let at-here = at-clear-unused .before .before .before .before in
+    let at-parse-pairs = at-here .before .before .before .before .before .before in
+    let at-write-root = at-parse-pairs .before .before .before .before .before in
+    let start = at-write-root .before .before .before .before .before in
+    some-accepted (start .args .config) (start .args .input .now) (start .args .words .now) (start .args .text .now) (start .pre .1) (start .pre .2)
+    (at-write-root .write-root .ensures) (start .pre .0) _ _
     (at-parse-pairs .parse-pairs .kept .1 .1 .0) (at-parse-pairs .parse-pairs .kept .1 .1 .1 .0) (at-parse-pairs .parse-pairs .ensures)
-    (c .before .here .given .1)
+    (at-here .here .given .1) (at-clear-unused .clear-unused .ensures)
 
 same-length-3 : tie.Need-same-length-3
 same-length-3 c = search needs
@@ -54,20 +79,26 @@ same-length-4 c = search needs
 
 returns-2 : tie.Need-returns-2
 returns-2 c =
-    let at-clear-words = c .before .before .before .before .before .before in
+    let at-clear-text = c .before .before in
+    let at-clear-words = at-clear-text .before .before .before .before in
     let at-refusal = at-clear-words .before .before .before in
     let at-parse-pairs = at-refusal .before .before .before .before .before .before in
-    let start = at-parse-pairs .before .before .before .before .before .before in
-    some-refused (start .args .config) (start .pre .1) (start .pre .2) (start .pre .3) (start .pre .4) (start .pre .0) _ _
+    let at-write-root = at-parse-pairs .before .before .before .before .before in
+    let start = at-write-root .before .before .before .before .before in
+    some-refused (start .args .config) (start .args .input .now) (start .args .words .now) (start .args .text .now) (start .pre .1) (start .pre .2)
+    (at-write-root .write-root .ensures) (start .pre .0) _ _
     (at-parse-pairs .parse-pairs .kept .1 .1 .0) (at-parse-pairs .parse-pairs .kept .1 .1 .1 .0) (at-parse-pairs .parse-pairs .ensures)
-    (at-refusal .refusal .given .1) (at-clear-words .clear-words .ensures) (c .before .before .clear-text .ensures)
+    (at-refusal .refusal .given .1) (at-clear-words .clear-words .ensures)
+    (at-clear-text .clear-text .ensures)
 
 pub parse-some-spec : {M : Type 1} → statement M
 parse-some-spec =
     tie.close
     (tie.spec
+    write-root-requires
     parse-pairs-requires
     enum-known-here
+    clear-unused-requires
     enum-known-refusal
     cast-at
     clear-words-requires

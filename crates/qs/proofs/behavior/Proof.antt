@@ -1,3 +1,4 @@
+-- The number is held against 0 as in the definition, and every other number is an error.
 use borrow.Author.Tests.{ne-eqb}
 use Rattle.qs.proofs.behavior.Statement.{statement}
 use Rattle.qs.proofs.behavior.Tie as tie

@@ -1,3 +1,4 @@
+-- A decoded length fits the output, which is shorter than 2 ^ 63 bytes, so it stays itself as an i64.
 use mathlib.Core.Path.{sym, ap, _∙_}
 use Prim.Native.Nat.{_<_, _^_}
 use native.Mathlib.Omega.{arith}

@@ -1,3 +1,4 @@
+-- C's depth and flag are made the settings of the definitions, and the reading is at these.
 use mathlib.Core.Path.{sym}
 use borrow.Author.Needs.{needs}
 use Rattle.qs.proofs.qs_parse.Statement.{statement}

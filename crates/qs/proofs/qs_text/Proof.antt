@@ -1,3 +1,4 @@
+-- C's three numbers are made settings and behavior as the definitions have them, and the text read is of these.
 use borrow.Author.Needs.{needs}
 use Rattle.qs.proofs.qs_text.Statement.{statement}
 use Rattle.qs.proofs.qs_text.Tie as tie

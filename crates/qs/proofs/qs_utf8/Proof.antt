@@ -1,3 +1,4 @@
+-- The test is both the definition's and the grammar's answer, and 1 and 0 are different numbers.
 use Prim.Native.Nat.{ℕ}
 use mathlib.Core.Path.{_≡_, refl, sym, _∙_}
 use native.Mathlib.Omega.{arith}

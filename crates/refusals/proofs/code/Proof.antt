@@ -1,3 +1,4 @@
+-- Each variant has the number that the definition gives it, one after another.
 use mathlib.Core.Path.{sym, ap}
 use borrow.Author.Needs.{needs}
 use Rattle.refusals.specs.Codes.{code}

@@ -1,3 +1,4 @@
+-- No more cases differ than are done, nor are done than counted, so no sum overflows; what is left falls each turn.
 use mathlib.Core.Path.{_≡_}
 use Prim.Native.Nat.{_-_, _≤_}
 use lib.ListN.{length}

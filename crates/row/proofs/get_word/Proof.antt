@@ -1,3 +1,4 @@
+-- A record of the words has all its eight words in them, so the place exists; word w is what stands there.
 use mathlib.Core.Path.{refl}
 use borrow.Author.Needs.{needs}
 use Rattle.row.specs.Words.{word}

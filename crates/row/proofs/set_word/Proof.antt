@@ -1,3 +1,4 @@
+-- A record of the words has all its eight words in them, so the place exists and is the one of the definition.
 use mathlib.Core.Path.{refl}
 use borrow.Author.Needs.{needs}
 use Rattle.row.specs.Words.{withWord}

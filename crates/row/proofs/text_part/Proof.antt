@@ -1,3 +1,4 @@
+-- The three returns are what is left of the text from the offset on: nothing, all of it, or the length asked for.
 use native.Mathlib.Omega.{arith}
 use Rattle.row.proofs.Parts.{part-past, part-cut, part-whole}
 use Rattle.row.proofs.text_part.Statement.{statement}

@@ -1,3 +1,4 @@
+-- The place of the word is tested before it is read, and past the words' end a word is 0 by definition.
 use mathlib.Core.Path.{refl}
 use native.Mathlib.Omega.{arith}
 use Rattle.row.specs.Words.{word}

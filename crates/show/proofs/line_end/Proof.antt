@@ -1,3 +1,4 @@
+-- No newline stands from the start up to the place reached, which rises to the next one or to the input's end.
 use Prim.Native.Nat.{_-_}
 use lib.ListN.{length}
 use native.Mathlib.Omega.{arith}

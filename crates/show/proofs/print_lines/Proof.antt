@@ -1,3 +1,4 @@
+-- Each line ends at or behind its start and inside the input, so its slice exists and the next start is greater.
 use mathlib.Core.Path.{_≡_}
 use Prim.Native.Nat.{_-_}
 use lib.ListN.{length}

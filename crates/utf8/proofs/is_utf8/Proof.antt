@@ -1,3 +1,4 @@
+-- The bytes from i on, taken from the state reached, decide as the whole do; i rises to the end, where none may be due.
 use borrow.Author.Needs.{needs}
 use native.Mathlib.Omega.{arith}
 use Prim.Native.Nat.{_-_}

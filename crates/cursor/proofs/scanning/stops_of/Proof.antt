@@ -1,3 +1,4 @@
+-- `stops_of` is right since it is the table of the definition, row by row.
 use mathlib.Core.Path.{ap, sym}
 use Rattle.cursor.specs.Scans.{stopsOf}
 use borrow.Author.Needs.{needs}

@@ -1,3 +1,4 @@
+-- Each turn is one taking: one that ends nothing adds to what is passed, and the first that ends the scan is answered.
 use mathlib.Core.Path.{_≡_}
 use Prim.Native.Nat.{_+_, _-_}
 use native.Mathlib.Omega.{arith}

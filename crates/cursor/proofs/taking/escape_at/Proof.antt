@@ -1,3 +1,4 @@
+-- `escape_at` is right since it asks for the flag and for three bytes, and these are the three at the place.
 use mathlib.Core.Path.{sym, _∙_}
 use Rattle.cursor.proofs.Takings.{escape-short, escape-long}
 use borrow.Author.Needs.{needs}

@@ -1,3 +1,4 @@
+-- `step` is right since an escaped bracket has three bytes of the input, any other taking one byte, and the end none.
 use native.Mathlib.Omega.{arith}
 use mathlib.Core.Path.{refl, sym, ap, _∙_}
 use Rattle.cursor.proofs.Takings.{takes-byte, takes-opening, takes-closing, next-is}

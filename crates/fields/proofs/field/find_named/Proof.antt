@@ -1,3 +1,4 @@
+-- The search from cur on gives that of all children; the chain of siblings ends, and gets shorter by one each turn.
 use native.Mathlib.Omega.{arith}
 use lib.ListN.{length}
 use borrow.Author.Needs.{needs}

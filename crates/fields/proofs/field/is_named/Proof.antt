@@ -1,3 +1,4 @@
+-- A String key lies in the text, so its slice exists and is compared with the name; no other key has a name.
 use borrow.Author.Needs.{needs}
 use Rattle.fields.specs.OnRecords.{isNamedAt}
 use Rattle.fields.proofs.Fields.{key-inside, is-name}

@@ -1,3 +1,4 @@
+-- The kinds are asked in the order of the definition, so each return is the first case of it whose test holds.
 use borrow.Author.Tests.{eq-eqb, ne-eqb}
 use borrow.Author.Needs.{needs}
 use Rattle.fields.specs.OnRecords.{fieldAt}

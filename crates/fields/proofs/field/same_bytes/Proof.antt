@@ -1,3 +1,4 @@
+-- Of equal lengths, the bytes from i on compare as the whole slices do; i rises to the length, or a difference ends it.
 use Prim.Native.Nat.{_-_}
 use native.Mathlib.Omega.{arith}
 use lib.ListN.{length}

@@ -1,3 +1,4 @@
+-- The count and the length of the chain from cur on add up to the children; the chain shortens by one each turn.
 use native.Mathlib.Omega.{arith}
 use lib.ListN.{length}
 use borrow.Author.Needs.{needs}

@@ -1,3 +1,4 @@
+-- The list is zero before it is read into, and a field that is found is one of the records, so it can be read.
 use mathlib.Core.Path.{sym, _∙_}
 use borrow.Author.Needs.{needs}
 use Rattle.fields.proofs.Lists.{zero-list, field-found, field-none}

@@ -1,3 +1,4 @@
+-- The answer from cur on is that of all children; another key ends it with no, and the chain shortens each turn.
 use native.Mathlib.Omega.{arith}
 use lib.ListN.{length}
 use borrow.Author.Needs.{needs}

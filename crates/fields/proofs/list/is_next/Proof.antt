@@ -1,3 +1,4 @@
+-- An Int key is held against the index; of the other kinds only a missing key, a Sequence's, is next in any case.
 use borrow.Author.Needs.{needs}
 use Rattle.fields.specs.OnRecords.{isNextAt}
 use Rattle.fields.proofs.Comparisons.{same-word, other-word}

@@ -1,3 +1,4 @@
+-- The count is that of the children, fewer than the records, so its double is exact and tells whether there is room.
 use mathlib.Core.Path.{refl}
 use native.Mathlib.Omega.{arith}
 use borrow.Author.Needs.{needs}

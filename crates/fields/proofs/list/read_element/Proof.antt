@@ -1,3 +1,4 @@
+-- The text is read only where the record is the next element; otherwise the index is missing.
 use mathlib.Core.Path.{sym, _∙_}
 use borrow.Author.Needs.{needs}
 use Rattle.fields.specs.OnRecords.{elementAt}

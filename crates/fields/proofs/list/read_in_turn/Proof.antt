@@ -1,3 +1,4 @@
+-- The elements before i are written with zeros behind, and those from cur on are due; the chain shortens each turn.
 use mathlib.Core.Path.{sym, _∙_}
 use native.Mathlib.Omega.{arith}
 use lib.ListN.{length}

@@ -1,3 +1,4 @@
+-- The kinds are asked in the order of the definition; a Map passes its children on only where every key is an Int.
 use mathlib.Core.Path.{sym, _∙_, refl}
 use borrow.Author.Needs.{needs}
 use Rattle.fields.specs.OnRecords.{listAt, stopped}

@@ -1,3 +1,4 @@
+-- Two words are enough for the one element, and the cleared rest behind them is zero as it has to be.
 use mathlib.Core.Path.{sym, _∙_}
 use borrow.Author.Needs.{needs}
 use Rattle.fields.proofs.Lists.{one-short, one-read, one-refused}

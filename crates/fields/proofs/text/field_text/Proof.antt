@@ -1,3 +1,4 @@
+-- A field that is found is one of the records, so its text can be read; where none is found, the refusal is handed on.
 use mathlib.Core.Path.{sym, _∙_}
 use borrow.Author.Needs.{needs}
 use Rattle.fields.proofs.Fields.{field-inside}

@@ -1,3 +1,4 @@
+-- Only where duplicates are refused is the next sibling asked for, and there 0 stands for none.
 use borrow.Author.Needs.{needs}
 use Rattle.fields.proofs.text.has_several.Statement.{statement}
 use Rattle.fields.proofs.text.has_several.Tie as tie

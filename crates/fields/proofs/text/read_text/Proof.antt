@@ -1,3 +1,4 @@
+-- The test for a Sequence is that of the definition, and either way has its own reader.
 use borrow.Author.Needs.{needs}
 use Rattle.fields.specs.OnRecords.{textAt}
 use Rattle.fields.proofs.Comparisons.{same-word, other-word}

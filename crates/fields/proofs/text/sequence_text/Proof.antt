@@ -1,3 +1,5 @@
+-- By the first child and its next sibling: none, several, or the last.
+use Rattle.row.specs.Words.{recordCount}
 use mathlib.Core.Path.{sym, _∙_}
 use borrow.Author.Needs.{needs}
 use Rattle.records.proofs.Chains.{last-inside}
@@ -31,7 +33,9 @@ returns-2 c =
     )
 
 last-child-requires : tie.Need-last-child-requires
-last-child-requires c κs = search needs
+last-child-requires c κs =
+    let start = c .before .before .before .before .before .before in
+    record { used = recordCount (start .args .words .now); holds = (start .pre .0 .formed .links, start .pre .1) }
 
 single-text-requires : tie.Need-single-text-requires
 single-text-requires c κs =

@@ -1,3 +1,4 @@
+-- The kinds are asked in the order of the definition: a String's text, the empty one twice, else the wrong kind.
 use borrow.Author.Needs.{needs}
 use Rattle.fields.specs.OnRecords.{singleTextAt}
 use Rattle.fields.proofs.Comparisons.{same-word, other-word}

@@ -1,3 +1,4 @@
+-- The text of a readable record lies inside, so the tested slice is the record's own part, and its test decides.
 use native.Mathlib.Omega.{arith}
 use borrow.Author.Needs.{needs}
 use Rattle.fields.proofs.Texts.{is-text, no-text}

@@ -1,3 +1,4 @@
+-- Unkeyed is `-`; an Int is `i` and its decimal, and any other kind `s` and its part of the text in hex.
 use native.Mathlib.Omega.{arith}
 use borrow.Author.Tests.{not-true, not-false}
 use Rattle.output.proofs.Pages.{puts-then, puts-same}

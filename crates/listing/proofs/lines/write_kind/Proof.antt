@@ -1,3 +1,4 @@
+-- Each kind that is asked for has the name written there; what is left after five is written as uninit.
 use mathlib.Core.Path.{refl}
 use Rattle.output.proofs.Pages.{puts-same}
 use Rattle.listing.proofs.ByKind.{name-is, name-of-other}

@@ -1,3 +1,4 @@
+-- Name, kind and newline follow each other, and the kind is the record's word, or 0 where there is none.
 use native.Mathlib.Omega.{arith}
 use Rattle.listing.proofs.ByKind.{name-is}
 use mathlib.Core.Path.{refl, sym}

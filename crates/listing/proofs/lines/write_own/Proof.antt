@@ -1,3 +1,4 @@
+-- The four lines of a record are written one behind the other, in the order of the definition.
 use native.Mathlib.Omega.{arith}
 use mathlib.Core.Path.{refl, ap}
 use Rattle.row.specs.Row.{kindWord}

@@ -1,3 +1,4 @@
+-- Only a String has a text, whose part is written in hex; for all other kinds there is `-`.
 use native.Mathlib.Omega.{arith}
 use Rattle.listing.proofs.Items.{string-text}
 use Rattle.row.specs.Row.{kindWord}
@@ -49,8 +50,8 @@ returns-2 c =
     let at-word-or-zero = at-if1 .before in
     let start = at-word-or-zero .before .before .before .before in
     let s = start .args in puts-same (c .before .before .write-hex .ensures)
-    (string-text (s .words .now) (s .text .now) (s .n) _ _ _ _ (at-word-or-zero .word-or-zero .ensures) (at-if1 .if1 .left) (at-word-or-zero2 .word-or-zero2 .ensures)
-    (at-word-or-zero3 .word-or-zero3 .ensures) (at-text-part .text-part .ensures))
+    (string-text (s .words .now) (s .text .now) (s .n) _ _ _ _ (at-word-or-zero .word-or-zero .ensures) (at-if1 .if1 .left)
+    (at-word-or-zero2 .word-or-zero2 .ensures) (at-word-or-zero3 .word-or-zero3 .ensures) (at-text-part .text-part .ensures))
 
 pub write-text-spec : {M : Type 1} → statement M
 write-text-spec =

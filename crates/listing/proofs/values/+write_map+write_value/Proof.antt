@@ -1,4 +1,4 @@
--- The measure of both writers is twice the count of records that are left, and one more for a map.
+-- What is due from n on gives all that is due; twice the records left, and one more for a map, falls at each call.
 use native.Mathlib.Omega.{arith}
 use Rattle.listing.specs.Walking.{firstOfSiblings}
 use Rattle.listing.proofs.Walks.{first-some, no-siblings, none-left, map-first, sequence-first, single-first}

@@ -1,3 +1,4 @@
+-- A refusal and words without a record list nothing; else the root's lines, at most one value a record, are all.
 use native.Mathlib.Omega.{arith}
 use mathlib.Core.Path.{sym, ap}
 use mathlib.Core.List.{flatten}

@@ -1,3 +1,4 @@
+-- Below 10 n is one digit; else the digits of n / 10 come first, and n / 10 is less than n, so the calls end.
 use Rattle.output.proofs.Digits.{puts-digit, puts-digits}
 use native.Mathlib.Omega.{arith}
 use Prim.Native.Nat.{ℕ, _<_}

@@ -1,3 +1,4 @@
+-- Below 10 it is counted from `0` and from there on from `a`; as n is below 16 neither overflows a byte.
 use native.Mathlib.Omega.{arith}
 use borrow.Author.Tests.{lt-ltb, le-ltb}
 use Rattle.output.proofs.numbers.hex_digit.Statement.{statement}

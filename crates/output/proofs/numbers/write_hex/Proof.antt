@@ -1,3 +1,4 @@
+-- Writing the hex of the bytes from i on gives that of all; each turn adds a byte's two digits, and i rises to the end.
 use Rattle.output.proofs.Digits.{hex-more, hex-done}
 use Rattle.output.proofs.Pages.{Putting, putting-start, putting-more, puts-then, putting-done}
 use mathlib.Core.Path.{_∙_}

@@ -1,3 +1,4 @@
+-- Name, decimal and newline are written one behind the other, which is the line.
 use native.Mathlib.Omega.{arith}
 use Rattle.output.proofs.Pages.{puts-then}
 use Rattle.output.proofs.numbers.write_number.Statement.{statement}

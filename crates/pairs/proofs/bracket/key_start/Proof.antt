@@ -1,3 +1,4 @@
+-- The choice is that of the definitions, by the level and the depth.
 use borrow.Author.Tests.{lt-ltb, le-ltb}
 use Rattle.pairs.proofs.bracket.key_start.Statement.{statement}
 use Rattle.pairs.proofs.bracket.key_start.Tie as tie

@@ -1,56 +1,60 @@
-use native.Mathlib.Omega.{arith}
-use Rattle.pairs.proofs.Moves.{moved, levels-on, as-level}
-use Rattle.pairs.proofs.Levels.{key-below, key-at}
+-- The map is needed first; what is read then goes on at the record that serves.
 use borrow.Author.Needs.{needs}
+use Rattle.reading.specs.Scanning.{needMap}
+use Rattle.tree.proofs.StoredTrees.{stand-low}
+use Rattle.pairs.specs.Turns.{inKey}
+use Rattle.pairs.proofs.Performing.{performable}
+use Rattle.pairs.proofs.Levels.{needed-on, needed-refused}
 use Rattle.pairs.proofs.bracket.parse_key.Statement.{statement}
 use Rattle.pairs.proofs.bracket.parse_key.Tie as tie
 
-key-below-depth-requires : tie.Need-key-below-depth-requires
-key-below-depth-requires c κs =
-    let start = c .before .before .before .before .before .before .before .before in
-    (moved (key-below (start .args .nested) (c .before .before .if1 .taken)) (start .pre .0), start .pre .1, omega arith)
+expect-map-requires : tie.Need-expect-map-requires
+expect-map-requires c κs =
+    let start = c .before .before .before .before .before .before in
+    stand-low (performable (start .pre .0) .stored)
+
+enum-known-there : tie.Need-enum-known-there
+enum-known-there c = search needs
+
+key-on-requires : tie.Need-key-on-requires
+key-on-requires c κs =
+    let start = c .before .before .before .before .before .before .before .before .before .before .before .before in
+    (start .pre .1, start .pre .2)
+
+enum-known-refusal : tie.Need-enum-known-refusal
+enum-known-refusal c = search needs
 
 same-length : tie.Need-same-length
 same-length c = search needs
 
+returns : tie.Need-returns
+returns c =
+    let at-there = c .before .before in
+    let at-expect-map = at-there .before .before .before .before in
+    let start = at-expect-map .before .before .before .before .before .before .before in
+    needed-on (start .args .bracket) (λ path. needMap path) (at-expect-map .expect-map .ensures .1 (start .args .text .now))
+    (inKey (start .args .config) (start .args .input .now) (start .args .bracket)) (at-there .there .given .1) (c .key-on .ensures _ _)
+
 same-length-2 : tie.Need-same-length-2
 same-length-2 c = search needs
 
-returns : tie.Need-returns
-returns c =
-    let at-key-below-depth = c .before .before .before .before in
-    let at-if1 = at-key-below-depth .before .before .before in
-    let start = at-if1 .before .before .before .before .before .before in
-    levels-on (key-below (start .args .nested) (at-if1 .if1 .taken)) (omega arith) (at-key-below-depth .key-below-depth .ensures)
-
-key-at-depth-requires : tie.Need-key-at-depth-requires
-key-at-depth-requires c κs =
-    let at-if1 = c .before .before .before .before in
-    let start = at-if1 .before .before .before .before .before .before in
-    (moved (key-at (start .args .nested) (at-if1 .if1 .left)) (start .pre .0), start .pre .1)
-
-same-length-3 : tie.Need-same-length-3
-same-length-3 c = search needs
-
-same-length-4 : tie.Need-same-length-4
-same-length-4 c = search needs
-
 returns-2 : tie.Need-returns-2
 returns-2 c =
-    let at-key-at-depth = c .before .before .before .before in
-    let at-if1 = at-key-at-depth .before .before .before .before .before in
-    let start = at-if1 .before .before .before .before .before .before in
-    levels-on (key-at (start .args .nested) (at-if1 .if1 .left)) (omega arith) (as-level (at-key-at-depth .key-at-depth .ensures))
+    let at-refusal = c .before in
+    let at-expect-map = at-refusal .before .before .before .before in
+    let start = at-expect-map .before .before .before .before .before .before .before in
+    needed-refused (start .args .bracket) (λ path. needMap path) (at-expect-map .expect-map .ensures .1 (start .args .text .now))
+    (inKey (start .args .config) (start .args .input .now) (start .args .bracket)) (at-refusal .refusal .given .1)
 
 pub parse-key-spec : {M : Type 1} → statement M
 parse-key-spec =
     tie.close
     (tie.spec
-    key-below-depth-requires
+    expect-map-requires
+    enum-known-there
+    key-on-requires
+    enum-known-refusal
     same-length
-    same-length-2
     returns
-    key-at-depth-requires
-    same-length-3
-    same-length-4
+    same-length-2
     returns-2)

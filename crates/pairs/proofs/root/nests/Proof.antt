@@ -1,3 +1,4 @@
+-- The test of the depth against 0 is the one of the definitions, turned around.
 use Rattle.pairs.proofs.Roots.{nests-is}
 use Rattle.pairs.proofs.root.nests.Statement.{statement}
 use Rattle.pairs.proofs.root.nests.Tie as tie

@@ -1,3 +1,4 @@
+-- Each variant has the numbers of its answer in the definition, and `code` gives a refusal's number.
 use mathlib.Core.Path.{sym, ap}
 use borrow.Author.Needs.{needs}
 use Rattle.parse.specs.Outcomes.{answerOf}

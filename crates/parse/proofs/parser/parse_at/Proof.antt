@@ -1,3 +1,4 @@
+-- What `rest` answers is the input from the index on, and `parse_input` reads that.
 use mathlib.Core.Path.{sym}
 use borrow.Author.Needs.{needs}
 use Rattle.parse.proofs.parser.parse_at.Statement.{statement}

@@ -1,3 +1,4 @@
+-- Up to the length it is the tail from the index on; past it that tail is empty, as is the one that starts at the end.
 use mathlib.Core.Path.{sym, _∙_}
 use native.Mathlib.Omega.{arith}
 use lib.ListN.{length, drop-of-length-le}

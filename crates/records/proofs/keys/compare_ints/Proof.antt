@@ -1,3 +1,4 @@
+-- Less and greater are tested as they are defined, and two numbers of which neither is less are equal.
 use mathlib.Core.Path.{sym}
 use Rattle.key.proofs.KeyOrders.{compare-less, compare-greater, compare-equal}
 use Rattle.records.proofs.keys.compare_ints.Statement.{statement}

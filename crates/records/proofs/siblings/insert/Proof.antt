@@ -1,3 +1,4 @@
+-- The record is written whole with its next sibling and then linked in, as the definition puts the two together.
 use mathlib.Core.Path.{ap, _∙_}
 use mathlib.Core.List.{List}
 use Prim.Native.Nat.{ℕ}

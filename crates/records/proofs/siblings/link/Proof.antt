@@ -1,3 +1,4 @@
+-- Where prev is 0 the parent's first child is written, else prev's next sibling: the two cases of the definition.
 use mathlib.Core.Path.{_∙_}
 use borrow.Author.Needs.{needs}
 use borrow.Author.Tests.{eq-eqb, ne-eqb}

@@ -1,27 +1,28 @@
+-- The position among the siblings still to come is that among all, as the loop passes those that stand before the key.
 use mathlib.Core.Path.{refl}
 use native.Mathlib.Omega.{arith}
 use borrow.Author.Needs.{needs}
 use lib.ListN.{length}
 use Rattle.row.specs.Words.{recordCount}
-use Rattle.records.specs.Keys.{meantKey}
+use Rattle.records.specs.Keys.{soughtKey}
 use Rattle.records.specs.Siblings.{chain, standing}
-use Rattle.records.proofs.Chains.{Walking, walking-on, walking-found, walking-past, walking-end, is-record, chain-falls}
+use Rattle.records.proofs.Chains.{Walking, walking-record, walking-key, walking-falls, walking-on, walking-found, walking-past, walking-end}
 use Rattle.records.proofs.siblings.walk.Statement.{statement}
 use Rattle.records.proofs.siblings.walk.Tie as tie
 
 abbrev Inv-loop : tie.InvT-loop
-Inv-loop words text before first key raw prev₀ cur₀ prev cur = Walking (standing words text (meantKey key raw)) words before first prev cur
+Inv-loop words text before first key bytes escaped prev₀ cur₀ prev cur =
+    Walking (standing words text (soughtKey key escaped bytes)) words text before first prev cur
 
 abbrev μ-loop : tie.MeasureT-loop
-μ-loop words text before first key raw prev₀ cur₀ prev cur = length (chain words (recordCount words) cur)
+μ-loop words text before first key bytes escaped prev₀ cur₀ prev cur = length (chain words (recordCount words) cur)
 
 loop-holds : tie.Need-loop-holds Inv-loop μ-loop
-loop-holds c = let start = c .before .before .before in record { ends = start .pre .1; so-far = refl }
+loop-holds c = let start = c .before .before .before in record { among = start .pre; so-far = refl }
 
 compare-key-requires : tie.Need-compare-key-requires Inv-loop μ-loop
 compare-key-requires c κs =
-    let start = c .before .before .before .before .before in
-    let i = is-record _ (c .before .loop .inv .ends) (c .loop-test .taken) in (i, start .pre .0 .keys _ i)
+    (walking-record (c .before .loop .inv) (c .loop-test .taken), walking-key (c .before .loop .inv) (c .loop-test .taken))
 
 enum-told : tie.Need-enum-told Inv-loop μ-loop
 enum-told c = search needs
@@ -30,13 +31,13 @@ get-word-requires : tie.Need-get-word-requires Inv-loop μ-loop
 get-word-requires c κs =
     let at-loop-test = c .before .before .before in
     let at-loop = at-loop-test .before in
-    (is-record _ (at-loop .loop .inv .ends) (at-loop-test .loop-test .taken), omega arith)
+    (walking-record (at-loop .loop .inv) (at-loop-test .loop-test .taken), omega arith)
 
 loop-less : tie.Need-loop-less Inv-loop μ-loop
 loop-less c =
     let at-loop-test = c .before .before .before .before in
     let at-loop = at-loop-test .before in
-    rw (c .get-word .ensures) (chain-falls _ (at-loop .loop .inv .ends) (at-loop-test .loop-test .taken))
+    rw (c .get-word .ensures) (walking-falls (at-loop .loop .inv) (at-loop-test .loop-test .taken))
 
 loop-again : tie.Need-loop-again Inv-loop μ-loop
 loop-again c =

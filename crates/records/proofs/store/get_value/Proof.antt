@@ -1,3 +1,4 @@
+-- The three words that are read are those that the record's value is defined of.
 use borrow.Author.Needs.{needs}
 use Rattle.records.specs.Records.{valueAt}
 use Rattle.records.proofs.store.get_value.Statement.{statement}

@@ -1,3 +1,4 @@
+-- Value, key, no child and the next sibling are written in turn: the record's fields in the order of the definition.
 use borrow.Author.Needs.{needs}
 use Rattle.records.proofs.Rows.{record-written}
 use Rattle.records.proofs.store.write_record.Statement.{statement}

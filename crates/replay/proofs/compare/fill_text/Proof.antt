@@ -1,3 +1,4 @@
+-- The text keeps its length through the writes, so i stays in it and rises to its end.
 use mathlib.Core.Path.{_≡_}
 use Prim.Native.Nat.{_-_, _≤_}
 use native.Mathlib.Omega.{arith}

@@ -1,3 +1,4 @@
+-- The words keep their number through the writes, so i stays in them and rises to their end.
 use mathlib.Core.Path.{_≡_}
 use Prim.Native.Nat.{_-_, _≤_}
 use native.Mathlib.Omega.{arith}

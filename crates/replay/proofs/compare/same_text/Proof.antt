@@ -1,3 +1,4 @@
+-- i stays in the text and is tested against the bytes before both are read; it rises to the text's length.
 use Prim.Native.Nat.{_-_, _≤_}
 use lib.ListN.{length}
 use borrow.Author.Needs.{needs}

@@ -1,3 +1,4 @@
+-- i stays in the words and four bytes are there before a number is read; 4 * i never overflows, and i rises to the end.
 use Prim.Native.Nat.{_-_, _≤_}
 use lib.ListN.{length}
 use borrow.Author.Needs.{needs}

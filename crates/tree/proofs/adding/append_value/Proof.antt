@@ -1,6 +1,7 @@
+-- By what laying and adding answer: the ways of AppendWays.
 use native.Mathlib.Omega.{arith}
-use Rattle.tree.proofs.Standing.{stand-low, stand-end, stand-other}
-use Rattle.tree.proofs.Bounds.{leaf-laid-le}
+use Rattle.tree.proofs.StoredTrees.{stand-used, stand-end, stand-other}
+use Rattle.tree.proofs.Bounds.{leaf-laid-le, append-modest}
 use Rattle.tree.proofs.AppendWays.{append-made, append-few, unfit-little, unfit-few}
 use borrow.Author.Needs.{needs}
 use Rattle.tree.proofs.adding.append_value.Statement.{statement}
@@ -36,7 +37,7 @@ append-requires : tie.Need-append-requires
 append-requires c κs =
     let at-lay-value = c .before .before .before .before .before .before .before .before in
     let start = at-lay-value .before .before .before .before .before .before in
-    (stand-other (start .pre .0) (at-lay-value .lay-value .last .1 .1 .0) (search needs), (stand-low (start .pre .0), start .pre .1 .0))
+    (stand-other (start .pre .0) (at-lay-value .lay-value .last .1 .1 .0) (search needs), (stand-used (start .pre .0), start .pre .1 .0))
 
 enum-known-records : tie.Need-enum-known-records
 enum-known-records c = search needs
@@ -78,7 +79,7 @@ append-requires-2 : tie.Need-append-requires-2
 append-requires-2 c κs =
     let at-lay-value = c .before .before .before .before .before .before .before in
     let start = at-lay-value .before .before .before .before .before .before in
-    (stand-other (start .pre .0) (at-lay-value .lay-value .last .1 .1 .0) (search needs), (stand-low (start .pre .0), start .pre .1 .0))
+    (stand-other (start .pre .0) (at-lay-value .lay-value .last .1 .1 .0) (search needs), (stand-used (start .pre .0), start .pre .1 .0))
 
 enum-told-3 : tie.Need-enum-told-3
 enum-told-3 c = search needs
@@ -100,9 +101,10 @@ returns c =
     let at-len = at-value-words .before .before in
     let at-lay-value = at-len .before .before .before .before in
     let start = at-lay-value .before .before .before .before .before .before in
-    append-made (start .args .words .now) (start .args .text .now) (start .args .here) (start .args .kind) (start .args .value .now)
+    let does = append-made (start .args .words .now) (start .args .text .now) (start .args .here) (start .args .kind) (start .args .value .now)
     (at-value-words .value-words .result) (at-lay-value .lay-value .ensures .0) (at-lay-value .lay-value .ensures .1) (at-append .append .ensures)
-    (at-len .len .given .1) (at-value-words .value-words .ensures) (at-records .records .given .1) (search needs)
+    (at-len .len .given .1) (at-value-words .value-words .ensures) (at-records .records .given .1) (search needs) in
+    (does, append-modest (start .pre .0) (start .args .kind) (start .args .value .now) does)
 
 same-length-3 : tie.Need-same-length-3
 same-length-3 c = search needs
@@ -116,10 +118,12 @@ returns-2 c =
     let at-value-words = at-append .before .before .before in
     let at-len = at-value-words .before .before in
     let at-lay-value = at-len .before .before .before .before in
-    let start = at-lay-value .before .before .before .before .before .before in
-    append-few (start .args .words .now) (start .args .text .now) (start .args .here) (start .args .kind) (start .args .value .now)
-    (at-value-words .value-words .result) (at-lay-value .lay-value .ensures .0) (at-lay-value .lay-value .ensures .1) (at-append .append .ensures)
-    (at-len .len .given .1) (at-value-words .value-words .ensures) (c .enum-told .given .1)
+    let start = at-lay-value .before .before .before .before .before .before in (
+      append-few (start .args .words .now) (start .args .text .now) (start .args .here) (start .args .kind) (start .args .value .now)
+          (at-value-words .value-words .result) (at-lay-value .lay-value .ensures .0) (at-lay-value .lay-value .ensures .1) (at-append .append .ensures)
+          (at-len .len .given .1) (at-value-words .value-words .ensures) (c .enum-told .given .1),
+      tt,
+    )
 
 same-length-5 : tie.Need-same-length-5
 same-length-5 c = search needs
@@ -133,10 +137,12 @@ returns-3 c =
     let at-value-words2 = at-append2 .before .before .before in
     let at-enum-told2 = at-value-words2 .before in
     let at-lay-value = at-enum-told2 .before .before .before .before in
-    let start = at-lay-value .before .before .before .before .before .before in
-    unfit-little (start .args .words .now) (start .args .text .now) (start .args .here) (start .args .kind) (start .args .value .now)
-    (at-value-words2 .value-words2 .result) (at-lay-value .lay-value .ensures .0) (at-lay-value .lay-value .ensures .1) (at-append2 .append2 .ensures)
-    (at-enum-told2 .enum-told2 .given .1) (c .enum-told3 .given .1)
+    let start = at-lay-value .before .before .before .before .before .before in (
+      unfit-little (start .args .words .now) (start .args .text .now) (start .args .here) (start .args .kind) (start .args .value .now)
+          (at-value-words2 .value-words2 .result) (at-lay-value .lay-value .ensures .0) (at-lay-value .lay-value .ensures .1) (at-append2 .append2 .ensures)
+          (at-enum-told2 .enum-told2 .given .1) (c .enum-told3 .given .1),
+      tt,
+    )
 
 same-length-7 : tie.Need-same-length-7
 same-length-7 c = search needs
@@ -150,10 +156,12 @@ returns-4 c =
     let at-value-words2 = at-append2 .before .before .before in
     let at-enum-told2 = at-value-words2 .before in
     let at-lay-value = at-enum-told2 .before .before .before .before in
-    let start = at-lay-value .before .before .before .before .before .before in
-    unfit-few (start .args .words .now) (start .args .text .now) (start .args .here) (start .args .kind) (start .args .value .now)
-    (at-value-words2 .value-words2 .result) (at-lay-value .lay-value .ensures .0) (at-lay-value .lay-value .ensures .1) (at-append2 .append2 .ensures)
-    (at-enum-told2 .enum-told2 .given .1) (c .enum-told4 .given .1)
+    let start = at-lay-value .before .before .before .before .before .before in (
+      unfit-few (start .args .words .now) (start .args .text .now) (start .args .here) (start .args .kind) (start .args .value .now)
+          (at-value-words2 .value-words2 .result) (at-lay-value .lay-value .ensures .0) (at-lay-value .lay-value .ensures .1) (at-append2 .append2 .ensures)
+          (at-enum-told2 .enum-told2 .given .1) (c .enum-told4 .given .1),
+      tt,
+    )
 
 pub append-value-spec : {M : Type 1} → statement M
 append-value-spec =

@@ -1,3 +1,4 @@
+-- Each kind has the words of the definition, and only a String's take the offset and the length.
 use borrow.Author.Needs.{needs}
 use Rattle.tree.proofs.adding.value_words.Statement.{statement}
 use Rattle.tree.proofs.adding.value_words.Tie as tie

@@ -1,12 +1,14 @@
+-- The key is laid behind what is used, where the tree stands still; then by what finding it answers (EnterWays).
 use native.Mathlib.Omega.{arith}
 use Rattle.records.specs.Keys.{meantKey}
-use Rattle.reading.specs.Adding.{enterKey}
+use Rattle.reading.specs.Adding.{keyText, enterKey}
 use Rattle.tree.specs.Commands.{needsMap, enters, along, stays, further}
 use Rattle.tree.proofs.Composed.{enter-composed}
-use Rattle.tree.proofs.Chained.{then-standing, stops}
-use Rattle.tree.proofs.Standing.{stand-low, stand-end, stand-formed}
-use Rattle.tree.proofs.Bounds.{enter-modest}
-use Rattle.tree.proofs.EnterWays.{enter-found, enter-new, prev-inside}
+use Rattle.tree.proofs.Chained.{stops}
+use Rattle.tree.proofs.Lays.{laid-behind}
+use Rattle.tree.proofs.StoredTrees.{stand-low, stand-end, stand-among}
+use Rattle.tree.proofs.Bounds.{key-laid-le, enter-modest}
+use Rattle.tree.proofs.EnterWays.{map-stands, laid-standing, from-before, enter-found, enter-new, prev-inside}
 use borrow.Author.Needs.{needs}
 use Rattle.tree.proofs.entering.enter.Statement.{statement}
 use Rattle.tree.proofs.entering.enter.Tie as tie
@@ -19,13 +21,31 @@ expect-map-requires c κs =
 enum-told : tie.Need-enum-told
 enum-told c = search needs
 
-find-requires : tie.Need-find-requires
-find-requires c κs =
-    let at-enum-told = c .before .before in
+cast-lay-key : tie.Need-cast-lay-key
+cast-lay-key c = search needs
+
+lay-key-requires : tie.Need-lay-key-requires
+lay-key-requires c κs =
+    let start = c .before .before .before .before .before .before .before .before .before .before .before in
+    stand-end (start .pre .0)
+
+find-key-requires : tie.Need-find-key-requires
+find-key-requires c κs =
+    let at-lay-key = c .before .before .before .before in
+    let at-enum-told = at-lay-key .before .before .before in
     let at-expect-map = at-enum-told .before .before .before .before in
     let start = at-expect-map .before .before .before .before .before in
-    let stands = then-standing needsMap stays (at-expect-map .expect-map .ensures .1 (start .args .text .now)) (start .pre .0) (at-enum-told .enum-told .given .1) in
-    (stand-formed stands, omega (arith, stand-low (start .pre .0), at-expect-map .expect-map .kept .0))
+    let text = keyText (meantKey (start .args .key) (start .args .raw .now)) in
+    let stands = laid-standing text (at-lay-key .lay-key .ensures .1)
+    (map-stands (start .pre .0) (at-expect-map .expect-map .ensures .0) (at-expect-map .expect-map .ensures .1 (start .args .text .now))
+    (at-enum-told .enum-told .given .1)) in (
+      stand-among stands,
+      (
+        stand-end stands,
+        laid-behind (start .args .text .now) (start .args .here .bytes) text (stand-end (start .pre .0)) (at-lay-key .lay-key .ensures .1)
+            (at-lay-key .lay-key .ensures .0),
+      ),
+    )
 
 enum-known-m : tie.Need-enum-known-m
 enum-known-m c = search needs
@@ -35,17 +55,26 @@ enum-known-prev c = search needs
 
 enter-new-requires : tie.Need-enter-new-requires
 enter-new-requires c κs =
-    let at-prev = c .before .before .before in
-    let at-find = at-prev .before .before in
-    let at-enum-told = at-find .before .before .before in
+    let at-prev = c .before .before in
+    let at-find-key = at-prev .before .before in
+    let at-lay-key = at-find-key .before .before .before .before .before in
+    let at-enum-told = at-lay-key .before .before .before in
     let at-expect-map = at-enum-told .before .before .before .before in
     let start = at-expect-map .before .before .before .before .before in
-    let stands = then-standing needsMap stays (at-expect-map .expect-map .ensures .1 (start .args .text .now)) (start .pre .0) (at-enum-told .enum-told .given .1) in (
-      omega (arith, stand-low (start .pre .0), at-expect-map .expect-map .kept .0),
-      prev-inside (meantKey (start .args .key) (start .args .raw .now)) (stand-formed stands)
-          (omega (arith, stand-low (start .pre .0), at-expect-map .expect-map .kept .0)) (at-find .find .ensures) (at-prev .prev .given .1),
-      stand-end (start .pre .0),
-      start .pre .1,
+    let key = meantKey (start .args .key) (start .args .raw .now) in
+    let stands = laid-standing (keyText key) (at-lay-key .lay-key .ensures .1)
+    (map-stands (start .pre .0) (at-expect-map .expect-map .ensures .0) (at-expect-map .expect-map .ensures .1 (start .args .text .now))
+    (at-enum-told .enum-told .given .1)) in (
+      stand-low stands,
+      prev-inside key (stand-among stands) (at-find-key .find-key .ensures) (at-prev .prev .given .1),
+      (
+        start .pre .1 .0,
+        omega (
+          arith,
+          start .pre .1 .1,
+          key-laid-le (start .args .text .now) (start .args .here .bytes) (start .args .key) (start .args .raw .now) (at-lay-key .lay-key .ensures .0),
+        ),
+      ),
     )
 
 enum-known-refusal : tie.Need-enum-known-refusal
@@ -59,14 +88,16 @@ same-length-2 c = search needs
 
 returns : tie.Need-returns
 returns c =
-    let at-m = c .before in
-    let at-find = at-m .before .before in
-    let at-enum-told = at-find .before .before .before in
+    let at-find-key = c .before .before .before in
+    let at-lay-key = at-find-key .before .before .before .before .before in
+    let at-enum-told = at-lay-key .before .before .before in
     let at-expect-map = at-enum-told .before .before .before .before in
     let start = at-expect-map .before .before .before .before .before in
-    let does = enter-found (start .args .words .now) (start .args .text .now) (start .args .here) (start .args .key) (start .args .raw .now)
-    (at-expect-map .expect-map .ensures .0 .0) (at-expect-map .expect-map .ensures .0 .1)
-    (at-enum-told .enum-told .given .1) (at-find .find .ensures) (at-m .m .given .1) in
+    let key = meantKey (start .args .key) (start .args .raw .now) in
+    let does = from-before (keyText key) (at-lay-key .lay-key .ensures .1) (enters key) (further key)
+    (enter-found (start .args .words .now) (at-lay-key .lay-key .last .1 .1 .0) (start .args .here) (start .args .key) (start .args .raw .now)
+    (at-expect-map .expect-map .ensures .0 .0)
+    (at-expect-map .expect-map .ensures .0 .1) (at-enum-told .enum-told .given .1) (at-find-key .find-key .ensures) (c .before .m .given .1)) in
     (does, enter-modest (start .pre .0) (start .args .key) (start .args .raw .now) does)
 
 same-length-3 : tie.Need-same-length-3
@@ -77,15 +108,21 @@ same-length-4 c = search needs
 
 returns-2 : tie.Need-returns-2
 returns-2 c =
-    let at-enter-new = c .before .before .before .before in
-    let at-prev = at-enter-new .before .before .before .before in
-    let at-find = at-prev .before .before in
-    let at-enum-told = at-find .before .before .before in
+    let at-enter-new = c .before .before in
+    let at-prev = at-enter-new .before .before .before in
+    let at-find-key = at-prev .before .before in
+    let at-lay-key = at-find-key .before .before .before .before .before in
+    let at-enum-told = at-lay-key .before .before .before in
     let at-expect-map = at-enum-told .before .before .before .before in
     let start = at-expect-map .before .before .before .before .before in
-    let does = enter-new (start .args .words .now) (start .args .text .now) (start .args .here) (start .args .key) (start .args .raw .now)
-    (at-expect-map .expect-map .ensures .0 .0) (at-expect-map .expect-map .ensures .0 .1)
-    (at-enum-told .enum-told .given .1) (at-find .find .ensures) (at-prev .prev .given .1) (at-enter-new .enter-new .ensures) in
+    let key = meantKey (start .args .key) (start .args .raw .now) in
+    let does = from-before (keyText key) (at-lay-key .lay-key .ensures .1) (enters key) (further key)
+    (enter-new (start .args .words .now) (at-lay-key .lay-key .last .1 .1 .0) (start .args .here) (start .args .key) (start .args .raw .now)
+    (at-expect-map .expect-map .ensures .0 .0)
+    (at-expect-map .expect-map .ensures .0 .1) (at-enum-told .enum-told .given .1) (at-find-key .find-key .ensures) (at-prev .prev .given .1)
+    (laid-behind (start .args .text .now) (start .args .here .bytes) (keyText key) (stand-end (start .pre .0)) (at-lay-key .lay-key .ensures .1)
+    (at-lay-key .lay-key .ensures .0))
+    (at-enter-new .enter-new .ensures)) in
     (does, enter-modest (start .pre .0) (start .args .key) (start .args .raw .now) does)
 
 same-length-5 : tie.Need-same-length-5
@@ -93,12 +130,11 @@ same-length-5 c = search needs
 
 returns-3 : tie.Need-returns-3
 returns-3 c =
-    let at-refusal = c .before in
-    let at-expect-map = at-refusal .before .before .before .before in
+    let at-expect-map = c .before .before .before .before .before in
     let start = at-expect-map .before .before .before .before .before in
     let key = meantKey (start .args .key) (start .args .raw .now) in (
       stops needsMap stays (at-expect-map .expect-map .ensures .1 (start .args .text .now)) (λ env path. along path (enterKey env key)) (enters key)
-          (λ env. enter-composed env key) (further key) (at-refusal .refusal .given .1),
+          (λ env. enter-composed env key) (further key) (c .before .refusal .given .1),
       tt,
     )
 
@@ -108,7 +144,9 @@ enter-spec =
     (tie.spec
     expect-map-requires
     enum-told
-    find-requires
+    cast-lay-key
+    lay-key-requires
+    find-key-requires
     enum-known-m
     enum-known-prev
     enter-new-requires

@@ -1,4 +1,4 @@
-use borrow.Author.Tests.{ne-eqb}
+-- Each way has the words of its kind.
 use borrow.Author.Needs.{needs}
 use Rattle.tree.proofs.entering.key_words.Statement.{statement}
 use Rattle.tree.proofs.entering.key_words.Tie as tie
@@ -9,21 +9,33 @@ enum-known-key c = search needs
 enum-told : tie.Need-enum-told
 enum-told c = search needs
 
+string-words-requires : tie.Need-string-words-requires
+string-words-requires c κs = search needs
+
+enum-told-2 : tie.Need-enum-told-2
+enum-told-2 c = search needs
+
+string-words-requires-2 : tie.Need-string-words-requires-2
+string-words-requires-2 c κs = search needs
+
 returns : tie.Need-returns
-returns c =
-    let at-enum-told = c .before in
-    rw (at-enum-told .enum-told .given .1, c .if1 .taken)
+returns c = rw (c .before .key .given .1)
 
 returns-2 : tie.Need-returns-2
-returns-2 c =
-    let at-key = c .before in
-    rw (at-key .key .given .1)
+returns-2 c = rw (c .before .enum-told .given .1) (c .string-words .ensures)
 
 returns-3 : tie.Need-returns-3
-returns-3 c =
-    let at-enum-told = c .before in
-    let start = at-enum-told .before .before in
-    rw (at-enum-told .enum-told .given .1, ne-eqb (start .args .len) 0 (c .if1 .left))
+returns-3 c = rw (c .before .enum-told2 .given .1) (c .string-words2 .ensures)
 
 pub key-words-spec : {M : Type 1} → statement M
-key-words-spec = tie.close (tie.spec enum-known-key enum-told returns returns-2 returns-3)
+key-words-spec =
+    tie.close
+    (tie.spec
+    enum-known-key
+    enum-told
+    string-words-requires
+    enum-told-2
+    string-words-requires-2
+    returns
+    returns-2
+    returns-3)

@@ -1,3 +1,4 @@
+-- What is decoded into the tail and put back behind the used bytes is the text as laid; it fits if the tail has room.
 use mathlib.Core.Path.{ap, _∙_}
 use mathlib.Core.List.{_++_}
 use lib.ListN.{take}

@@ -1,3 +1,4 @@
+-- A String lays what the segment decodes to; the other kinds have no text, and 0 bytes always fit.
 use Rattle.tree.proofs.Lays.{none-answer, none-laid}
 use borrow.Author.Needs.{needs}
 use Rattle.tree.proofs.laying.lay_value.Statement.{statement}

@@ -1,3 +1,4 @@
+-- The kind is asked in the definition's order, only Uninitialized is overwritten, and what is left refuses as null.
 use mathlib.Core.Path.{refl}
 use Rattle.tree.proofs.Needs.{mapNeed, on-uninitialized, on-kind, on-other, null-map}
 use borrow.Author.Needs.{needs}
@@ -63,7 +64,8 @@ returns-5 c =
     let at-get-word = at-if1 .before in
     let start = at-get-word .before .before .before in
     on-other (start .args .words .now) (start .args .here) (at-get-word .get-word .ensures) mapNeed (at-if1 .if1 .left)
-    (null-map (start .args .words .now) (start .args .here) (at-get-word .get-word .ensures) (at-if1 .if1 .left) (at-if2 .if2 .left) (at-if3 .if3 .left) (c .if4 .left))
+    (null-map (start .args .words .now) (start .args .here) (at-get-word .get-word .ensures) (at-if1 .if1 .left) (at-if2 .if2 .left)
+    (at-if3 .if3 .left) (c .if4 .left))
 
 pub expect-map-spec : {M : Type 1} → statement M
 expect-map-spec =

@@ -1,3 +1,4 @@
+-- The kind is asked in the definition's order, only Uninitialized is overwritten, and what is left is a single value.
 use mathlib.Core.Path.{refl}
 use Rattle.tree.proofs.Needs.{sequenceNeed, on-uninitialized, on-kind, on-other, single-sequence}
 use borrow.Author.Needs.{needs}

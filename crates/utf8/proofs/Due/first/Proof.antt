@@ -1,3 +1,4 @@
+-- The bounds are tried in rising order as in the definition, so each first byte gets what is due after it.
 use mathlib.Core.Path.{sym, _∙_}
 use native.Mathlib.Omega.{arith}
 use borrow.Author.Needs.{needs}

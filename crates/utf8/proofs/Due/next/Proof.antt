@@ -1,3 +1,4 @@
+-- A begun character takes a byte in its bounds and one fewer is due; with none begun the byte is a first one.
 use mathlib.Core.Path.{sym, _∙_}
 use native.Mathlib.Omega.{arith}
 use borrow.Author.Needs.{needs}

@@ -1,3 +1,4 @@
+-- The four first bytes with narrower bounds are asked for in turn, and all others have the full range.
 use mathlib.Core.Path.{sym, _∙_}
 use native.Mathlib.Omega.{arith}
 use borrow.Author.Needs.{needs}

@@ -1,3 +1,4 @@
+-- Two symbols are the same by definition where their numbers are, and `number` gives these.
 use borrow.Author.Needs.{needs}
 use Rattle.cursor.proofs.taking.Symbol.is.Statement.{statement}
 use Rattle.cursor.proofs.taking.Symbol.is.Tie as tie
