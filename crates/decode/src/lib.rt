@@ -204,7 +204,7 @@ pub fn decode(raw: &[u8], out: &mut [u8]) -> Decoded
 }
 
 // The number of bytes that decoding answered, 0 after a no.
-fn answered_len(answer: Decoded) -> usize
+pub fn answered_len(answer: Decoded) -> usize
     ensures { λ r. ⌜ r ≡ lengthOf answer ⌝ }
 {
     match answer {

@@ -2,7 +2,7 @@
 use Prim.Native.Nat.{ℕ, zero, suc, _+_, _≤_, _<_}
 use mathlib.Core.Path.{_≡_, refl, sym, ap, _∙_, subst}
 use mathlib.Core.Bool.{Bool, true, false, cond}
-use mathlib.Core.List.{List, [], _∷_, _++_}
+use mathlib.Core.List.{List, []}
 use native.Mathlib.Omega.{arith}
 use lib.Dec.{eqb}
 use lib.ListN.{length}
@@ -228,8 +228,10 @@ module _ (s : List ℕ) (scanned : ScannedKey) where
       subst (λ (t : Target). After env W X (reached t) (MadeHere (scanned .here)) (perform env (reach t) tree (usedBy (scanned .here) laid)))
       (sym (ap (λ (k : KeyKind). targetAt k (scanned .level) raw path) n ∙ ap (λ (m : ℕ). targetAt None m raw path) l))
       (stood refl
-      (subst (λ (m : ℕ). StoredAt env W X (record { records = scanned .here .records; bytes = scanned .here .bytes; node = m }) [] tree laid) (sym z)
-      (at-root st)))
+      (subst
+      (λ (m : ℕ).
+      StoredAt env W X (record { records = scanned .here .records; bytes = scanned .here .bytes; node = m; aids = scanned .here .aids }) [] tree laid)
+      (sym z) (at-root st)))
 
   pub served-does : {W X W1 : List ℕ} {r : Performed} → scanned .key ≡ None → (scanned .level ≡ 0 → ⊥)
       → Performs W X W1 X (scanned .here) needsSequence stays r

@@ -182,7 +182,7 @@ PairsEnd answer words text (Refused x place) = answer ≡ refusedAt x place
 
 -- The root of the tree that stands there.
 abbrev pub rootOf : Here → Here
-rootOf here = record { records = here .records; bytes = here .bytes; node = 0 }
+rootOf here = record { records = here .records; bytes = here .bytes; node = 0; aids = here .aids }
 
 -- A root key is scanned from an index on, up to the taking that ends it.
 pub record RootScanned (config : Config) (input : List ℕ) (here : Here) (index : ℕ) (r : ScannedKey) : Type 0 where

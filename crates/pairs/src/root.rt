@@ -38,6 +38,7 @@ fn root_of(here: Here) -> Here
         records: here.records,
         bytes: here.bytes,
         node: 0,
+        aids: here.aids,
     }
 }
 

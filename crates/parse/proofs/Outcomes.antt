@@ -26,6 +26,7 @@ use Rattle.row.specs.Words.{recordCount}
 use Rattle.records.specs.Records.{recordFields, withRecord}
 use Rattle.records.specs.Adding.{unkeyed, childless}
 use Rattle.records.proofs.Rows.{length-withWords}
+use Rattle.records.proofs.Keeping.{holds-kept}
 use Rattle.tree.specs.declared.Here.{Here}
 use Rattle.tree.specs.Stored.{Stores, clearedFrom}
 use Rattle.tree.proofs.Lays.{full-le}
@@ -36,11 +37,12 @@ use Rattle.parse.specs.declared.Parsed.the-variants.{Accepted, Refused a
 use Rattle.pairs.specs.declared.turning.Turn.{Turn}
 use Rattle.pairs.specs.declared.turning.Turn.the-variants.{Going, Refused}
 use Rattle.parse.specs.Outcomes.{outcomeOf}
+use Rattle.parse.specs.Begun.{Begun}
 use Rattle.pairs.specs.Progress.{still, Start, moment, Reads, SomeReads}
 use Rattle.pairs.specs.Turns.{PairsEnd}
 
-abbrev start : Here
-start = record { records = 1; bytes = 0; node = 0 }
+abbrev start : ℕ → Here
+start aids = record { records = 1; bytes = 0; node = 0; aids = aids }
 
 -- A reading of its own starts at place 0, and covers nothing yet.
 abbrev begin : Start
@@ -54,11 +56,23 @@ length-rooted : (kind : ℕ) (W : List ℕ) → length (rooted kind W) ≡ lengt
 length-rooted kind W = length-withWords W 0 (recordFields (unkeyed (childless kind)) 0)
 
 -- The reading of an input starts from the Uninitialized root, written into the words R.
-module _ (config : Config) (s W X : List ℕ) {R : List ℕ} (small : length s ≤ maxLen) (some : recordWidth ≤ length W) (a : R ≡ rooted uninitializedKind W) where
+module _ (config : Config) (s W X : List ℕ) {R : List ℕ} {aids : ℕ} (small : length s ≤ maxLen) (some : recordWidth ≤ length W) (a : Begun W R aids) where
   wide : length R ≡ length W
-  wide = ap length a ∙ length-rooted uninitializedKind W
+  wide = a .kept .as-many ∙ length-rooted uninitializedKind W
 
-  start-reads : Reads config s begin (moment R X start 0)
+  start-stores : Stores R X 1 0 (alone uninitialized) []
+  start-stores =
+      let k = uninitialized-root W X some in
+      record {
+        holds = holds-kept (a .kept) 1 (omega (arith, a .aided .below)) (k .holds);
+        texts = k .texts;
+        shaped = k .shaped;
+        free = k .free;
+        full = k .full;
+        fill = k .fill;
+      }
+
+  start-reads : Reads config s begin (moment R X (start aids) 0)
       (still (λ path. rootKey [])) (from config (lending (lentBy R X)) s 0 0 (rootKey []) (alone uninitialized) rootOnly)
   start-reads =
       record {
@@ -68,8 +82,9 @@ module _ (config : Config) (s W X : List ℕ) {R : List ℕ} (small : length s �
         laid = [];
         stored = record {
           lent-is = refl;
-          stores = subst (λ (w : List ℕ). Stores w X 1 0 (alone uninitialized) []) (sym a) (uninitialized-root W X some);
+          stores = start-stores;
           leads = root (alone uninitialized);
+          aided = a .aided;
         };
         onward = refl;
         covered = gives {a = alone uninitialized} {u = rootOnly} (record { records = omega arith; bytes = omega arith });
@@ -79,7 +94,7 @@ module _ (config : Config) (s W X : List ℕ) {R : List ℕ} (small : length s �
         within = omega arith;
       }
 
-  pub start-ready : SomeReads config s (moment R X start 0) (still (λ path. rootKey []))
+  pub start-ready : SomeReads config s (moment R X (start aids) 0) (still (λ path. rootKey []))
   start-ready =
       record { start = begin; answer = from config (lending (lentBy R X)) s 0 0 (rootKey []) (alone uninitialized) rootOnly; reads = start-reads }
 
@@ -91,7 +106,7 @@ module _ (config : Config) (s W X : List ℕ) {R : List ℕ} (small : length s �
 
   -- The answer to an input that isn't empty.
   module _ (nonempty : 0 < length s) (W′ X′ : List ℕ) (w : length W′ ≡ length R) (x : length X′ ≡ length X) {turn : Turn}
-      (g : (o : Start) (answer : Answer) → o .place ≡ 0 → Reads config s o (moment R X start 0) (still (λ path. rootKey [])) answer
+      (g : (o : Start) (answer : Answer) → o .place ≡ 0 → Reads config s o (moment R X (start aids) 0) (still (λ path. rootKey [])) answer
       → PairsEnd answer W′ X′ turn) where
     ends : {turn′ : Turn} → turn ≡ turn′ → PairsEnd (parsed config s (lentBy R X)) W′ X′ turn′
     ends e = subst (λ (z : Turn). PairsEnd (parsed config s (lentBy R X)) W′ X′ z) e

@@ -4,3 +4,4 @@ pub mod Answers
 pub mod Space
 pub mod Growth
 pub mod Demands
+pub mod Begun

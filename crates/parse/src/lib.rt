@@ -1,7 +1,7 @@
 // The reader: the source's `parse` and its `Parser` (src/de/parse.rs), of an input into lent records and text, equal
 // to `reading` (specs/Outcomes). The demands that follow for one call and for two stand in specs/Demands.
-// Below it stand the reading of the pairs (pairs), the records (records), a record's row (row), the refusals
-// (refusals) and the definitions (reading).
+// Below it stand the reading of the pairs (pairs), the records (records), the aids to finding a child (aids), a
+// record's row (row), the refusals (refusals) and the definitions (reading).
 mod parser; // the parser that holds the input
 
 ghost use mathlib.Core.Path.{_≡_};
@@ -18,6 +18,7 @@ ghost use Rattle.records.specs.Records.{withRecord};
 ghost use Rattle.records.specs.Adding.{unkeyed, childless};
 ghost use Rattle.tree.specs.Stored.{clearedFrom};
 ghost use Rattle.parse.specs.Outcomes.{answerOf, outcomeOf};
+ghost use Rattle.parse.specs.Begun.{Begun};
 use clearing::clear_text;
 use clearing::clear_words;
 use config::Config;
@@ -26,6 +27,7 @@ use pairs::parse_pairs;
 pub use parser::Parser;
 pub use parser::parse_at;
 use reading::Reading;
+use records::growing;
 use records::store;
 use records::store::KeyWords;
 use records::store::Record;
@@ -81,6 +83,15 @@ fn write_root(words: &mut [u32], kind: u32)
     store::write_record(words, 0, root, 0);
 }
 
+// Writes an Uninitialized root and makes the aids ready, which stand below so many records.
+fn begin(words: &mut [u32]) -> u32
+    requires { ⌜ recordWidth ≤ length (now words) ⌝ }
+    ensures { λ r. ⌜ Begun (now (words .entry)) (now (words .exit)) r ⌝ }
+{
+    write_root(words, row::UNINITIALIZED);
+    growing::start(words)
+}
+
 // Clears what isn't used of the words and of the text: behind so many records, and behind so many bytes.
 fn clear_unused(words: &mut [u32], text: &mut [u8], records: u32, bytes: u32)
     requires { ⌜ (records ≤ recordCount (now words)) × (bytes ≤ length (now text)) ⌝ }
@@ -101,11 +112,12 @@ fn parse_some(input: &[u8], config: Config, words: &mut [u32], text: &mut [u8]) 
         ≡ outcome (length (now (words .entry))) (length (now (text .entry)))
         (parsed config (now (input .entry)) (lentBy (now (words .entry)) (now (text .entry)))) ⌝ }
 {
-    write_root(words, row::UNINITIALIZED);
+    let aids = begin(words);
     let root = Here {
         records: 1,
         bytes: 0,
         node: 0,
+        aids,
     };
     match parse_pairs(input, config, words, text, root, 0) {
         Turn::Going(_, here) => {

@@ -5,15 +5,15 @@ use mathlib.Core.List.{List, [], _∷_}
 use Prim.Native.Nat.{ℕ, zero, suc, _<_, Ordering, Ordering·lt, Ordering·eq, Ordering·gt}
 use native.Mathlib.Omega.{arith}
 use lib.ListN.{length}
-use Rattle.records.specs.declared.keys.Ordering.{Ordering as KeyOrdering}
-use Rattle.records.specs.declared.keys.Ordering.the-variants.{Less, Equal, Greater}
+use Rattle.tags.specs.declared.Ordering.{Ordering as KeyOrdering}
+use Rattle.tags.specs.declared.Ordering.the-variants.{Less, Equal, Greater}
 use Rattle.records.specs.declared.siblings.Position.the-variants.{Found, Between}
 use Rattle.row.specs.Row.{childWord, nextWord}
 use Rattle.row.specs.Words.{recordCount, word}
 use Rattle.records.specs.Records.{keyWordsAt}
 use Rattle.records.specs.Keys.{InText}
-use Rattle.records.specs.Order.{orderingOf}
-use Rattle.records.specs.Siblings.{chain, children, lastOf, seek, Within, ChainEnds, Linked, WellFormed, ForSome}
+use Rattle.tags.specs.Tags.{orderingOf}
+use Rattle.records.specs.Siblings.{chain, children, lastOf, seek, Within, ChainEnds, Linked, ForSome, Walking}
 
 pub chain-end : (ws : List ℕ) (f : ℕ) → chain ws f 0 ≡ []
 unfolding chain
@@ -49,11 +49,6 @@ module _ (ws : List ℕ) {used cur : ℕ} (e : ChainEnds ws used cur) (n : cur �
 
   pub ends-next : ChainEnds ws used (word ws cur nextWord)
   ends-next = record { within = parts .2; few = omega (arith, chain-falls, e .few) }
-
--- The loop of `walk`: the place in the rest of the list is the place in the whole.
-pub record Walking (stands : ℕ → Ordering) (ws text : List ℕ) (before start prev cur : ℕ) : Type 0 where
-  pub among : ForSome (λ used. WellFormed ws text used × ChainEnds ws used cur)
-  pub so-far : seek stands prev (chain ws (recordCount ws) cur) ≡ seek stands before (chain ws (recordCount ws) start)
 
 module _ {stands : ℕ → Ordering} {ws text : List ℕ} {before start prev cur : ℕ} (v : Walking stands ws text before start prev cur) where
   abbrev pub walking-ends : ChainEnds ws (v .among .used) cur
@@ -94,12 +89,12 @@ module _ {stands : ℕ → Ordering} {ws text : List ℕ} {before start prev cur
   unfolding seek
   walking-end e = rw (e, chain-end ws (recordCount ws)) at (v .so-far)
 
--- The loop of `last_child`.
-pub record Passing (ws : List ℕ) (parent prev cur : ℕ) : Type 0 where
+-- The loop of `last_from`: the last of the rest of the list is the last of the whole.
+pub record Passing (ws : List ℕ) (last prev cur : ℕ) : Type 0 where
   pub among : ForSome (λ used. Linked ws used × ChainEnds ws used cur)
-  pub so-far : lastOf prev (chain ws (recordCount ws) cur) ≡ lastOf 0 (children ws parent)
+  pub so-far : lastOf prev (chain ws (recordCount ws) cur) ≡ last
 
-module _ {ws : List ℕ} {parent prev cur : ℕ} (v : Passing ws parent prev cur) where
+module _ {ws : List ℕ} {last prev cur : ℕ} (v : Passing ws last prev cur) where
   abbrev passing-ends : ChainEnds ws (v .among .used) cur
   passing-ends = v .among .holds .1
 
@@ -109,21 +104,21 @@ module _ {ws : List ℕ} {parent prev cur : ℕ} (v : Passing ws parent prev cur
   pub passing-falls : cur ≢ 0 → length (chain ws (recordCount ws) (word ws cur nextWord)) < length (chain ws (recordCount ws) cur)
   passing-falls n = chain-falls ws passing-ends n
 
-  pub passing-on : cur ≢ 0 → Passing ws parent cur (word ws cur nextWord)
+  pub passing-on : cur ≢ 0 → Passing ws last cur (word ws cur nextWord)
   passing-on n =
       record {
         among = record { used = v .among .used; holds = (v .among .holds .0, ends-next ws passing-ends n) };
         so-far = rw (step ws passing-ends n) at (v .so-far);
       }
 
-  pub passing-end : cur ≡ 0 → prev ≡ lastOf 0 (children ws parent)
+  pub passing-end : cur ≡ 0 → prev ≡ last
   passing-end e = rw (e, chain-end ws (recordCount ws)) at (v .so-far)
 
 within-lower : (lo hi : ℕ) (ms : List ℕ) → Within lo hi ms → Within 0 hi ms
 within-lower lo hi [] h = tt
 within-lower lo hi (m ∷ ms) h = (omega arith, h .1, within-lower lo hi ms (h .2))
 
-last-within : (lo hi d : ℕ) (ms : List ℕ) → d < hi → Within lo hi ms → lastOf d ms < hi
+pub last-within : (lo hi d : ℕ) (ms : List ℕ) → d < hi → Within lo hi ms → lastOf d ms < hi
 last-within lo hi d [] l h = l
 last-within lo hi d (m ∷ ms) l h = last-within lo hi m ms (h .1) (h .2)
 
@@ -131,9 +126,6 @@ last-within lo hi d (m ∷ ms) l h = last-within lo hi m ms (h .1) (h .2)
 module _ {ws : List ℕ} {used : ℕ} (k : Linked ws used) (n : ℕ) (l : n < used) where
   pub children-end : ChainEnds ws used (word ws n childWord)
   children-end = record { within = within-lower n used (children ws n) (k .rising n l); few = k .ends n l }
-
-  pub passing-start : Passing ws n 0 (word ws n childWord)
-  passing-start = record { among = record { used = used; holds = (k, children-end) }; so-far = refl }
 
   pub last-inside : lastOf 0 (children ws n) < used
   last-inside = last-within n used 0 (children ws n) (omega arith) (k .rising n l)
@@ -152,13 +144,3 @@ found-within stands lo hi prev m (k ∷ ms) e h = go (stands k) refl (found-with
     go Ordering·lt q ih = ih (rw q at e) (h .2)
     go Ordering·eq q ih = let f : Found k ≡ Found m = rw q at e in let g : k ≡ m = cc in rw (← g) (h .0, h .1)
     go Ordering·gt q ih = never-both m prev k (sym (rw q at e))
-
-pub between-within : (stands : ℕ → Ordering) (lo hi prev p x : ℕ) (ms : List ℕ) → seek stands prev ms ≡ Between p x → prev < hi → Within lo hi ms → p < hi
-unfolding seek
-between-within stands lo hi prev p x [] e l h = let g : prev ≡ p = cc in rw (← g) l
-between-within stands lo hi prev p x (k ∷ ms) e l h = go (stands k) refl (between-within stands lo hi k p x ms)
-  where
-    go : (o : Ordering) → stands k ≡ o → (seek stands k ms ≡ Between p x → k < hi → Within lo hi ms → p < hi) → p < hi
-    go Ordering·lt q ih = ih (rw q at e) (h .1) (h .2)
-    go Ordering·eq q ih = never-both k p x (rw q at e)
-    go Ordering·gt q ih = let f : Between prev k ≡ Between p x = rw q at e in let g : prev ≡ p = cc in rw (← g) l

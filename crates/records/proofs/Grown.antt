@@ -24,7 +24,7 @@ use Rattle.records.proofs.Seeking.{seekNode, insertNode, seek-prev, cou
 use Rattle.records.proofs.Held.{is-used, at-most-once, node-used, other-node, node-represented, node-rising, no-root}
 
 -- A forest in the place of another that is greater by one is greater by one.
-size-more : (a : Context) (x y : Nodes) → size y ≡ size x + 1 → size (plug a y) ≡ size (plug a x) + 1
+pub size-more : (a : Context) (x y : Nodes) → size y ≡ size x + 1 → size (plug a y) ≡ size (plug a x) + 1
 size-more here x y e = e
 size-more (down n r a s) x y e = omega (arith, size-more a x y e)
 size-more (along n r c a) x y e = omega (arith, size-more a x y e)

@@ -86,7 +86,7 @@ module _ {ws text : List ℕ} {used : ℕ} (n : ℕ) (r : Record) (c s : Nodes) 
 
 -- What the functions ask of the words.
 module _ {ws text : List ℕ} {used : ℕ} {f : Nodes} (k : Holds ws text used f) where
-  at : (n : ℕ) → n < used → At n f
+  pub at : (n : ℕ) → n < used → At n f
   at n l = focus n f (omega (arith, k .once n l))
 
   there : (n : ℕ) (l : n < used) → Holds ws text used (plug (at n l .around) (node n (at n l .entry) (at n l .below) (at n l .behind)))

@@ -1,7 +1,7 @@
 pub mod Rows
 pub mod Comparing
+pub mod Tagged
 pub mod Chains
-pub mod Added
 pub mod Forests
 pub mod Contexts
 pub mod Seeking
@@ -10,3 +10,11 @@ pub mod Grown
 pub mod Valued
 pub mod Sequences
 pub mod Start
+pub mod Keeping
+pub mod Shortcuts
+pub mod Gaps
+pub mod Parents
+pub mod Knowing
+pub mod Finds
+pub mod Grows
+pub mod Added

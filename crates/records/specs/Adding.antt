@@ -1,5 +1,5 @@
 -- Document 01, 'Adding (`append_value`)', on the words.
-use Prim.Native.Nat.{ℕ, zero, suc, _+_}
+use Prim.Native.Nat.{ℕ, zero, suc, _+_, _-_, _<_, _≤_, _^_}
 use mathlib.Core.Path.{_≡_}
 use mathlib.Core.Bool.{cond}
 use mathlib.Core.List.{List, []}
@@ -13,6 +13,9 @@ use Rattle.records.specs.declared.store.ValueWords.{ValueWords}
 use Rattle.records.specs.declared.store.Record.{Record}
 use Rattle.row.specs.Row.{kindWord, uninitializedKind, mapKind, sequenceKind, noKeyKind, stringKeyKind}
 use Rattle.row.specs.Words.{recordCount, word}
+use Rattle.aids.specs.declared.Among.{Among}
+use Rattle.aids.specs.Kept.{freeFrom, Kept}
+use Rattle.records.specs.Aids.{Ready, Grown}
 use Rattle.records.specs.Records.{valueAt, withValue, inserted}
 use Rattle.records.specs.Siblings.{children, lastOf, position}
 
@@ -21,9 +24,11 @@ pub record Change : Type 0 where
   pub words : List ℕ
   pub answer : Appended
 
--- The words ws and the answer r are as the change has them.
-abbrev pub Changed : Change → List ℕ → Appended → Type 0
-Changed change ws r = (ws ≡ change .words) × (r ≡ change .answer)
+-- A change was made to the words, but for those behind the aids, which are right; or there are too few records, and
+-- the words are free.
+pub data Leaves (change : Change) (aids : ℕ) (ws' : List ℕ) : Appended → Type 0 where
+  enough : {n : ℕ} → change .answer ≡ Used n → Grown (change .words) aids n ws' → Leaves change aids ws' (Used n)
+  few : change .answer ≡ TooFew → Leaves change aids ws' TooFew
 
 -- "Space is checked just before each of these": the words changed so that `count` records are used, or too few and
 -- nothing changed.
@@ -75,8 +80,7 @@ atPosition (Found m) found between = found m
 atPosition (Between prev next) found between = between prev next
 
 -- The rule at record n: "a Map adds it under its empty key, calling the same rule again". Each call is at a child,
--- whose number is greater, so that as much fuel as there are records from n on isn't used up: `append`, which has
--- none, answers the same for all such fuel.
+-- whose number is greater, so that as much fuel as there are records from n on isn't used up.
 unfoldable pub appended : ℕ → List ℕ → List ℕ → ℕ → ℕ → ValueWords → Change
 appended zero ws text used n v = record { words = ws; answer = TooFew }
 appended (suc fuel) ws text used n v =
@@ -84,3 +88,18 @@ appended (suc fuel) ws text used n v =
     (atPosition (position ws text (str []) n) (λ m. appended fuel ws text used m v)
     (λ prev next. childAdded ws used n prev next v))
     (appendedHere ws used n v)
+
+-- Words to which a value can be added at the parent.
+pub record Growable (ws : List ℕ) (among : Among) : Type 0 where
+  pub text : List ℕ
+  pub ready : Ready ws text (among .used) (among .aids)
+  pub inside : among .parent < among .used
+  pub countable : among .used + 2 < 2 ^ 32
+
+-- A value was added at the parent by the rule, to words of which those that aren't free are kept. The code has no fuel:
+-- what it leaves is right for all that suffices.
+pub record Appends (ws text : List ℕ) (among : Among) (v : ValueWords) (ws' : List ℕ) (r : Appended) : Type 0 where
+  pub before : List ℕ
+  pub kept : Kept (freeFrom (among .aids)) ws before
+  pub leaves : (fuel : ℕ) → recordCount before - among .parent ≤ fuel
+      → Leaves (appended fuel before text (among .used) (among .parent) v) (among .aids) ws' r

@@ -40,3 +40,8 @@ pub record Holds (ws text : List ℕ) (used : ℕ) (f : Nodes) : Type 0 where
   pub rising : Rising f
   pub room : used ≤ recordCount ws
   pub keys : (n : ℕ) → n < used → InText text (keyWordsAt ws n)
+
+-- Some forest stands in the words.
+pub record HoldsSome (ws text : List ℕ) (used : ℕ) : Type 0 where
+  pub forest : Nodes
+  pub holds : Holds ws text used forest

@@ -1,7 +1,8 @@
 pub mod Records
-pub mod Order
 pub mod Keys
 pub mod Siblings
-pub mod Adding
 pub mod Nodes
 pub mod Holds
+pub mod Aids
+pub mod Finding
+pub mod Adding

@@ -1,5 +1,6 @@
 -- Lists of siblings, and the position of a key in one.
 use Prim.Native.Nat.{ℕ, zero, suc, _<_, _≤_, Ordering}
+use mathlib.Core.Path.{_≡_}
 use mathlib.Core.List.{List, [], _∷_}
 use lib.ListN.{length}
 use Rattle.key.specs.Keys.{Key}
@@ -66,3 +67,9 @@ pub record WellFormed (ws text : List ℕ) (used : ℕ) : Type 0 where
 pub record ForSome (P : ℕ → Type 0) : Type 0 where
   pub used : ℕ
   pub holds : P used
+
+-- A walk along siblings that began at `start`, behind `before`, and now stands at `cur`, behind `prev`: the position in
+-- the rest of the list is that in the whole.
+pub record Walking (stands : ℕ → Ordering) (ws text : List ℕ) (before start prev cur : ℕ) : Type 0 where
+  pub among : ForSome (λ used. WellFormed ws text used × ChainEnds ws used cur)
+  pub so-far : seek stands prev (chain ws (recordCount ws) cur) ≡ seek stands before (chain ws (recordCount ws) start)

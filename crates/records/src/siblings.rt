@@ -70,18 +70,27 @@ pub fn find(
     walk(words, text, 0, first, key, bytes, escaped)
 }
 
-// The last child of a record, or 0.
-pub fn last_child(words: &[u32], parent: u32) -> u32
-    requires { ⌜ ForSome (λ used. Linked (now words) used × (parent < used)) ⌝ }
-    ensures { λ r. ⌜ r ≡ lastOf 0 (children (now (words .entry)) parent) ⌝ }
+// The last of the siblings from `first` on, or `before` where there is none.
+pub(crate) fn last_from(words: &[u32], before: u32, first: u32) -> u32
+    requires { ⌜ ForSome (λ used. Linked (now words) used × ChainEnds (now words) used first) ⌝ }
+    ensures { λ r. ⌜ r ≡ lastOf before (chain (now (words .entry)) (recordCount (now (words .entry))) first) ⌝ }
 {
-    let mut prev = 0;
-    let mut cur = row::get_word(words, parent, row::CHILD);
+    let mut prev = before;
+    let mut cur = first;
     while cur != 0 {
         prev = cur;
         cur = row::get_word(words, cur, row::NEXT);
     }
     prev
+}
+
+// The last child of a record, or 0.
+pub fn last_child(words: &[u32], parent: u32) -> u32
+    requires { ⌜ ForSome (λ used. Linked (now words) used × (parent < used)) ⌝ }
+    ensures { λ r. ⌜ r ≡ lastOf 0 (children (now (words .entry)) parent) ⌝ }
+{
+    let first = row::get_word(words, parent, row::CHILD);
+    last_from(words, 0, first)
 }
 
 // Makes record `new` the next sibling of prev, or the first child of parent where prev is 0. Nothing else changes.

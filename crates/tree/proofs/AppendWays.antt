@@ -1,20 +1,24 @@
 -- The ways through `append_value`: what it leaves and answers is what the rule of Adding makes at the record that a path leads to.
 use mathlib.Core.Path.{_≡_, refl, ap, sym, _∙_, subst}
 use mathlib.Core.List.{List, _++_, append-assoc}
-use Prim.Native.Nat.{ℕ, _+_, _-_, _<_, _≤_}
+use Prim.Native.Nat.{ℕ, _+_, _<_, _≤_}
 use native.Mathlib.Omega.{arith}
 use lib.ListN.{length, drop, length-append}
 use Rattle.key.specs.Keys.{Key}
 use Rattle.decode.specs.declared.Decoded.{Decoded}
 use Rattle.decode.specs.declared.Decoded.the-variants.{Yes, No}
+use Rattle.decode.specs.Shown.{lengthOf}
 use Rattle.records.specs.declared.appending.Appended.{Appended}
 use Rattle.records.specs.declared.appending.Appended.the-variants.{Used, TooFew}
 use Rattle.records.specs.declared.store.ValueWords.{ValueWords}
 use Rattle.row.specs.Words.{recordCount}
-use Rattle.records.specs.Adding.{Change, Changed, appended}
+use Rattle.aids.specs.declared.Among.{Among}
+use Rattle.records.specs.Adding.{Change, Leaves, Appends, appended}
+use Rattle.records.specs.Aids.{aidsFor, Grown}
 use Rattle.records.specs.Nodes.{Nodes, node, plug}
 use Rattle.records.specs.Holds.{Holds}
 use Rattle.records.proofs.Held.{other-text}
+use Rattle.records.proofs.Keeping.{holds-kept}
 use Rattle.reading.specs.Values.{Node}
 use Rattle.reading.specs.Leaves.{Leaf, leafOf}
 use Rattle.refusals.specs.declared.Refusal.the-variants.{TooFewRecords, TooLittleText}
@@ -32,13 +36,14 @@ use Rattle.tree.specs.declared.Performed.the-variants.{Made as MadeHere,
 use Rattle.reading.specs.declared.LeafKind.{LeafKind}
 use Rattle.reading.specs.declared.LeafKind.the-variants.{Null, NoValue, String}
 use Rattle.tree.specs.Nodes.{valueWords, recordOf, below, rooted}
-use Rattle.tree.specs.NewValues.{newValueWords}
+use Rattle.tree.specs.NewValues.{newValueWords, appendedAt}
 use Rattle.tree.specs.Laying.{layAnswer, laid}
 use Rattle.tree.specs.Stored.{Leads, put, usedBy, StoredAt}
 use Rattle.tree.specs.Commands.{After, stood, stopped, Performs, along, appends, stays}
 use Rattle.tree.proofs.Lays.{lay-yes, lay-no, laid-short, laid-full, length-laid}
 use Rattle.tree.proofs.Paths.{changed}
 use Rattle.tree.proofs.StoredTrees.{same-lent, at-node, at-text, at-end}
+use Rattle.tree.proofs.Kept.{stored-kept}
 use Rattle.tree.proofs.Appends.{RowKept, rowKept, appends-keep, Agree, good, few, little, agree}
 
 leaf-words : (kind : LeafKind) (raw : List ℕ) (o : ℕ) → valueWords (valueAt (leafOf kind raw) o) ≡ newValueWords kind o (length (leafText (leafOf kind raw)))
@@ -49,6 +54,17 @@ leaf-words String raw o = refl
 -- An answer of `append` is one or the other.
 used-or-few : {A : Type 0} {u : ℕ} → Used u ≡ TooFew → A
 used-or-few e = absurd (let z : _≡_ {A = ℕ} 0 1 = cc in omega arith)
+
+-- What a change leaves: its answer, and where there are enough records its words but behind the aids.
+answer-is : {change : Change} {aids : ℕ} {ws' : List ℕ} {a : Appended} → Leaves change aids ws' a → a ≡ change .answer
+answer-is (Leaves.enough e g) = sym e
+answer-is (Leaves.few e) = sym e
+
+grown-is : {change : Change} {aids : ℕ} {ws' : List ℕ} {a : Appended} {u : ℕ} → Leaves change aids ws' a → a ≡ Used u
+    → Grown (change .words) aids u ws'
+grown-is {change} {aids} {ws'} {u = u} (Leaves.enough {n = n} e g) q =
+    let f : n ≡ u = cc in subst (λ (m : ℕ). Grown (change .words) aids m ws') f g
+grown-is (Leaves.few e) q = used-or-few (sym q)
 
 module _ {env : Environment} {ws text : List ℕ} {here : Here} {p : List Key} {v : Node} {t : List ℕ} (s : StoredAt env ws text here p v t) (x : Leaf)
     (text' zs : List ℕ) (full : text' ≡ t ++ zs) (long : length text' ≡ length text) (c : ValueWords) where
@@ -73,7 +89,7 @@ module _ {env : Environment} {ws text : List ℕ} {here : Here} {p : List Key} {
   rule-is : along p (appendValue env x) v before ≡ over (i .back) (appendValue env x (i .row) (i .value) before)
   rule-is = ap (λ (y : Node). along p (appendValue env x) y before) (i .whole) ∙ i .does (i .value) (appendValue env x) before
 
-  module _ {ws' : List ℕ} {a : Appended} (is : Changed change ws' a) where
+  module _ {ws' : List ℕ} {a : Appended} (is : Leaves change (here .aids) ws' a) where
     abbrev Goal : Performed → Type 0
     Goal r = After env ws' text' p r (along p (appendValue env x) v (usedBy here t))
 
@@ -85,9 +101,9 @@ module _ {env : Environment} {ws text : List ℕ} {here : Here} {p : List Key} {
     few-left q = to (go agreed)
       where
         go : {m : Made Node} → Agree text' env x t c change T m → After env ws' text' p (Refused TooFewRecords) (over (i .back) m)
-        go (good l b h) = used-or-few (sym b ∙ sym (is .1) ∙ q)
+        go (good l b h) = used-or-few (sym b ∙ sym (answer-is is) ∙ q)
         go (few b) = stopped
-        go (little l b) = used-or-few (sym b ∙ sym (is .1) ∙ q)
+        go (little l b) = used-or-few (sym b ∙ sym (answer-is is) ∙ q)
 
     bytes-lent : env .lent .bytes ≡ length text
     bytes-lent = ap (λ (l : Lent). l .bytes) (s .lent-is)
@@ -98,13 +114,13 @@ module _ {env : Environment} {ws text : List ℕ} {here : Here} {p : List Key} {
       where
         go : {m : Made Node} → Agree text' env x t c change T m → After env ws' text' p (Refused TooLittleText) (over (i .back) m)
         go (good g b h) = absurd (omega (arith, s .stores .fill, bytes-lent))
-        go (few b) = used-or-few (sym q ∙ is .1 ∙ b)
+        go (few b) = used-or-few (sym q ∙ answer-is is ∙ b)
         go (little g b) = stopped
 
     -- Enough of both.
     pub added : {u : ℕ} → a ≡ Used u → length ws' ≡ length ws → valueWords (valueAt x (length t)) ≡ c
         → (free : List ℕ) → text' ≡ (t ++ leafText x) ++ free → here .bytes + length (leafText x) ≤ length text
-        → Goal (MadeHere (record { records = u; bytes = here .bytes + length (leafText x); node = here .node }))
+        → Goal (MadeHere (record { records = u; bytes = here .bytes + length (leafText x); node = here .node; aids = aidsFor (here .aids) u }))
     added {u} q lw fits free full' l =
         to
         (go agreed (appends-keep env x (i .row) (i .value) before)
@@ -113,9 +129,10 @@ module _ {env : Environment} {ws text : List ℕ} {here : Here} {p : List Key} {
       where
         go : {m : Made Node} → Agree text' env x t c change T m → RowKept (i .row) m → Each (Adds v before) (over (i .back) m)
             → All (λ n. Shaped (n .value)) (over (i .back) m)
-            → After env ws' text' p (MadeHere (record { records = u; bytes = here .bytes + length (leafText x); node = here .node })) (over (i .back) m)
+            → After env ws' text' p
+            (MadeHere (record { records = u; bytes = here .bytes + length (leafText x); node = here .node; aids = aidsFor (here .aids) u })) (over (i .back) m)
         go (good {u = n} g b h) (rowKept {w = w}) (gives e) (gives o) =
-            let same : Used n ≡ Used u = sym b ∙ sym (is .1) ∙ q in
+            let same : Used n ≡ Used u = sym b ∙ sym (answer-is is) ∙ q in
             let same-used : n ≡ u = cc in
             let filled : here .bytes + length (leafText x) ≡ length (t ++ leafText x) = omega (arith, s .stores .fill, length-append t (leafText x)) in
             stood same-used
@@ -124,8 +141,8 @@ module _ {env : Environment} {ws text : List ℕ} {here : Here} {p : List Key} {
               stores =
                   record {
                     holds =
-                        subst (λ (y : ℕ). Holds ws' text' y (rooted (put i w))) same-used
-                        (subst (λ (y : List ℕ). Holds y text' n (rooted (put i w))) (sym (is .0))
+                        holds-kept (grown-is is q .kept) u (omega (arith, grown-is is q .aided .below))
+                        (subst (λ (y : ℕ). Holds (change .words) text' y (rooted (put i w))) same-used
                         (subst (λ (y : Nodes). Holds (change .words) text' n y) (sym (i .is w)) (h fits)));
                     texts = e .texts (s .stores .texts);
                     shaped = o;
@@ -134,22 +151,31 @@ module _ {env : Environment} {ws text : List ℕ} {here : Here} {p : List Key} {
                     fill = filled;
                   };
               leads = changed i w;
+              aided = grown-is is q .aided;
             })
-        go (few b) k e o = used-or-few (sym q ∙ is .1 ∙ b)
+        go (few b) k e o = used-or-few (sym q ∙ answer-is is ∙ b)
         go (little g b) k e o = absurd (omega (arith, s .stores .fill, bytes-lent))
 
--- The code's four ways, by its own facts.
+-- The record of a command, as `append` has it.
+abbrev amongOf : Here → Among
+amongOf here = record { parent = here .node; used = here .records; aids = here .aids }
+
+-- The code's ways, by its own facts.
 module _ (ws text : List ℕ) (here : Here) (kind : LeafKind) (value : List ℕ) {ws' text' : List ℕ} {d : Decoded} (c : ValueWords) {a : Appended}
     (e : d ≡ layAnswer text (here .bytes) (leafText (leafOf kind value))) (et : text' ≡ laid text (here .bytes) (leafText (leafOf kind value)))
-    (does : (fuel : ℕ) → recordCount ws - here .node ≤ fuel → Changed (appended fuel ws text' (here .records) (here .node) c) ws' a) where
+    (does : Appends ws text' (amongOf here) c ws' a) where
   abbrev x : Leaf
   x = leafOf kind value
 
   abbrev Promise : Performed → Type 0
   Promise r = Performs ws text ws' text' here (appends (leafOf kind value)) stays r
 
-  is : Changed (appended (recordCount ws) ws text' (here .records) (here .node) c) ws' a
-  is = does (recordCount ws) (omega arith)
+  is : Leaves (appended (recordCount (does .before)) (does .before) text' (here .records) (here .node) c) (here .aids) ws' a
+  is = does .leaves (recordCount (does .before)) (omega arith)
+
+  -- The tree stands in the words that the change was made to.
+  kept : {env : Environment} {p : List Key} {v : Node} {t : List ℕ} → StoredAt env ws text here p v t → StoredAt env (does .before) text here p v t
+  kept s = stored-kept (does .kept) s
 
   -- The value's text is laid.
   module _ {len : ℕ} (q : d ≡ Yes len) (ec : c ≡ newValueWords kind (here .bytes) len) where
@@ -178,16 +204,18 @@ module _ (ws text : List ℕ) (here : Here) (kind : LeafKind) (value : List ℕ)
           ap (λ (o : ℕ). valueWords (valueAt x o)) (sym (s .stores .fill)) ∙ leaf-words kind value (here .bytes)
           ∙ ap (λ (m : ℕ). newValueWords kind (here .bytes) m) (sym len-is) ∙ sym ec
 
-    pub append-made : {u : ℕ} → a ≡ Used u → length ws' ≡ length ws → Promise (MadeHere (record { records = u; bytes = here .bytes + len; node = here .node }))
+    append-made : {u : ℕ} → a ≡ Used u → length ws' ≡ length ws
+        → Promise (MadeHere (record { records = u; bytes = here .bytes + len; node = here .node; aids = aidsFor (here .aids) u }))
     append-made {u} z lw env p v t s =
         subst
         (λ (n : ℕ).
-        After env ws' text' p (MadeHere (record { records = u; bytes = here .bytes + n; node = here .node })) (along p (appendValue env x) v (usedBy here t)))
+        After env ws' text' p (MadeHere (record { records = u; bytes = here .bytes + n; node = here .node; aids = aidsFor (here .aids) u }))
+        (along p (appendValue env x) v (usedBy here t)))
         (sym len-is)
-        (added s x text' (leafText x ++ left) (split s) (long s) c is z lw (words-are s) left (whole s) fits)
+        (added (kept s) x text' (leafText x ++ left) (split s) (long s) c is z (lw ∙ sym (does .kept .as-many)) (words-are s) left (whole s) fits)
 
-    pub append-few : a ≡ TooFew → Promise (Refused TooFewRecords)
-    append-few z env p v t s = few-left s x text' (leafText x ++ left) (split s) (long s) c is z
+    append-few : a ≡ TooFew → Promise (Refused TooFewRecords)
+    append-few z env p v t s = few-left (kept s) x text' (leafText x ++ left) (split s) (long s) c is z
 
   -- It doesn't fit.
   module _ (q : d ≡ No) where
@@ -197,9 +225,28 @@ module _ (ws text : List ℕ) (here : Here) (kind : LeafKind) (value : List ℕ)
     same : text' ≡ text
     same = et ∙ laid-short text (here .bytes) (leafText x) over-full
 
-    pub unfit-little : {u : ℕ} → a ≡ Used u → Promise (Refused TooLittleText)
+    unfit-little : {u : ℕ} → a ≡ Used u → Promise (Refused TooLittleText)
     unfit-little z env p v t s =
-        little-left s x text' (s .stores .free) (same ∙ s .stores .full) (ap length same) c is z over-full
+        little-left (kept s) x text' (s .stores .free) (same ∙ s .stores .full) (ap length same) c is z over-full
 
-    pub unfit-few : a ≡ TooFew → Promise (Refused TooFewRecords)
-    unfit-few z env p v t s = few-left s x text' (s .stores .free) (same ∙ s .stores .full) (ap length same) c is z
+    unfit-few : a ≡ TooFew → Promise (Refused TooFewRecords)
+    unfit-few z env p v t s = few-left (kept s) x text' (s .stores .free) (same ∙ s .stores .full) (ap length same) c is z
+
+  -- By the answer of `append`.
+  module _ (ec : c ≡ newValueWords kind (here .bytes) (lengthOf d)) where
+    words-of : {len : ℕ} → d ≡ Yes len → c ≡ newValueWords kind (here .bytes) len
+    words-of q = ec ∙ ap (λ (k : Decoded). newValueWords kind (here .bytes) (lengthOf k)) q
+
+    pub append-enough : {u : ℕ} → a ≡ Used u → length ws' ≡ length ws → Promise (appendedAt here d u)
+    append-enough {u} z lw = go d refl
+      where
+        go : (k : Decoded) → d ≡ k → Promise (appendedAt here d u)
+        go (Yes len) q = subst (λ (k : Decoded). Promise (appendedAt here k u)) (sym q) (append-made q (words-of q) z lw)
+        go No q = subst (λ (k : Decoded). Promise (appendedAt here k u)) (sym q) (unfit-little q z)
+
+    pub append-too-few : a ≡ TooFew → Promise (Refused TooFewRecords)
+    append-too-few z = go d refl
+      where
+        go : (k : Decoded) → d ≡ k → Promise (Refused TooFewRecords)
+        go (Yes len) q = append-few q (words-of q) z
+        go No q = unfit-few q z

@@ -12,7 +12,7 @@ use Rattle.decode.proofs.Loops.{decoded-le}
 use Rattle.key.specs.declared.KeyKind.{KeyKind}
 use Rattle.key.specs.declared.KeyKind.the-variants.{None, Int, String as StringKey}
 use Rattle.records.specs.Keys.{meantKey}
-use Rattle.reading.specs.Values.{child, Node, at}
+use Rattle.reading.specs.Values.{Row, Value, child, Node, at}
 use Rattle.reading.specs.Leaves.{Leaf, leafOf}
 use Rattle.reading.specs.Charging.{Environment, Used, Made, Rule, NodeRule, charge}
 use Rattle.reading.specs.Adding.{mapAt, sequenceAt, keyText, leafText, valueAt, snoc, appendValue, enterKey, atPath}
@@ -55,8 +55,13 @@ pub leaf-laid-le : (text : List ℕ) (used : ℕ) (kind : LeafKind) (raw : List 
     → d ≡ layAnswer text used (leafText (leafOf kind raw)) → d ≡ Yes len → len ≤ length raw
 leaf-laid-le text used kind raw e q = omega (arith, leaf-le kind raw, lay-yes text used (leafText (leafOf kind raw)) e q .0)
 
+pub leaf-laid-len : (text : List ℕ) (used : ℕ) (kind : LeafKind) (raw : List ℕ) (d : Decoded)
+    → d ≡ layAnswer text used (leafText (leafOf kind raw)) → lengthOf d ≤ length raw
+leaf-laid-len text used kind raw (Yes len) e = leaf-laid-le text used kind raw e refl
+leaf-laid-len text used kind raw No e = omega arith
+
 -- A rule that adds at most two records and b bytes.
-abbrev Little : ℕ → {A : Type 0} → Used → Made A → Type 0
+abbrev pub Little : ℕ → {A : Type 0} → Used → Made A → Type 0
 Little b u r = Each (λ a w. (w .records ≤ u .records + 2) × (length (w .text) ≤ length (u .text) + b)) r
 
 module _ (b : ℕ) where
@@ -100,6 +105,10 @@ module _ (b : ℕ) where
           pushed = λ l cs u. charged 1 (leafText x) (sequenceAt l (snoc cs (element x u))) u (omega arith) h;
           pushedFirst = λ l u. charged 1 (leafText x) (sequenceAt l (element x u)) u (omega arith) h;
         }
+
+-- The rule of Adding is such a rule.
+pub append-little : (env : Environment) (x : Leaf) (l : Row) (v : Value) (u : Used) → Little (length (leafText x)) u (appendValue env x l v u)
+append-little env x = append-obeys (adding (length (leafText x)) env x (omega arith))
 
 -- Of a command that made something.
 pub made-modest : (here : Here) (k : ℕ) {there : Here} {r : Performed} → AddsAtMost here k r → r ≡ MadeHere there

@@ -4,10 +4,14 @@ pub mod Paths
 pub mod Composed
 pub mod Lays
 pub mod StoredTrees
+pub mod Kept
+pub mod Sorting
+pub mod Leaves
+pub mod Seeks
 pub mod Chained
 pub mod Needs
+pub mod Bounds
 pub mod Appends
 pub mod AppendWays
 pub mod EnterWays
-pub mod Bounds
 pub mod Whole

@@ -3,7 +3,7 @@ use mathlib.Core.Path.{_≡_, refl, ap, ap₂, sym, _∙_, subst}
 use mathlib.Core.Logic.{_≢_}
 use mathlib.Core.Bool.{Bool, true, false, cond}
 use mathlib.Core.List.{List}
-use Prim.Native.Nat.{ℕ}
+use Prim.Native.Nat.{ℕ, _<_}
 use native.Mathlib.Omega.{arith}
 use lib.ListN.{length}
 use lib.Dec.{eqb}
@@ -15,8 +15,10 @@ use Rattle.row.specs.Words.{word}
 use Rattle.records.specs.Records.{withValue}
 use Rattle.records.specs.Adding.{childless}
 use Rattle.records.specs.Nodes.{Nodes, nil, node, plug}
-use Rattle.records.specs.Holds.{Holds}
+use Rattle.records.specs.Holds.{Holds, HoldsSome}
+use Rattle.records.specs.Aids.{Aided}
 use Rattle.records.proofs.Valued.{value-holds, length-withValue}
+use Rattle.records.proofs.Knowing.{aided-valued}
 use Rattle.reading.specs.Values.{Row, Value, uninitialized, null, noValue, string, map, sequence, Forest, none, Node, at}
 use Rattle.refusals.specs.declared.Refusal.{Refusal}
 use Rattle.refusals.specs.declared.Refusal.the-variants.{SequenceOnMap, SequenceOnSingle, MapOnSequence, MapOnString}
@@ -40,7 +42,7 @@ use Rattle.tree.specs.Needing.{mapAnswer, sequenceAnswer, becomes}
 use Rattle.tree.specs.Stored.{Stores, Leads, put, usedBy, SomeStoredAt}
 use Rattle.tree.specs.Commands.{After, stood, stopped, Performs, along, stays}
 use Rattle.tree.proofs.Paths.{changed}
-use Rattle.tree.proofs.StoredTrees.{same-lent, at-node, at-kind}
+use Rattle.tree.proofs.StoredTrees.{same-lent, at-node, at-kind, at-used, some-stored}
 use Rattle.tree.proofs.Chained.{not-both}
 
 -- What a need makes of a value, its children, and what the answer is for its kind.
@@ -82,6 +84,14 @@ made-shaped {w} {u} {m} e q = go (subst (λ (y : Made Node). All (λ n. Shaped (
   where
     go : All (λ n. Shaped (n .value)) (made w u) → Shaped (w .value)
     go (gives a) = a
+
+-- The aids stay right.
+pub aided-becomes : {ws text : List ℕ} {used aids : ℕ} (n k : ℕ) → HoldsSome ws text used → n < used → Aided ws used aids → Aided (becomes ws n k) used aids
+aided-becomes {ws} {text} {used} {aids} n k h l a = go (eqb (word ws n kindWord) uninitializedKind)
+  where
+    go : (b : Bool) → Aided (cond b (withValue ws n (childless k)) ws) used aids
+    go true = aided-valued h l (childless k) a
+    go false = a
 
 module _ (need : Need) where
   abbrev wrapAt : Row → Forest → Node
@@ -168,6 +178,9 @@ module _ (need : Need) where
             lent-is = s .lent-is ∙ same-lent ws text ws' text (ap length ew ∙ length-becomes ws (here .node) (need .of-kind)) refl;
             stores = q;
             leads = changed (s .leads) (need .wrap cs);
+            aided =
+                subst (λ (y : List ℕ). Aided y (here .records) (here .aids)) (sym ew)
+                (aided-becomes (here .node) (need .of-kind) (some-stored s) (at-used (s .stores) (s .leads)) (s .aided));
           })))
       go (unserved x a e) =
           subst (λ (m : Made Node). After env ws' text p r m) (sym (rule-is (s .stores) (s .leads) here er ew (refused x) (e (usedBy here t))))

@@ -12,7 +12,7 @@ use Rattle.reading.specs.Laid.{LaidLabel}
 use Rattle.reading.proofs.Laying.{lies-part}
 use Rattle.tree.specs.Nodes.{labelWords, recordOf}
 
-stored-key : (text : List ℕ) (l : Label) → LaidLabel text l → storedKey text (labelWords l) ≡ labelKey l
+pub stored-key : (text : List ℕ) (l : Label) → LaidLabel text l → storedKey text (labelWords l) ≡ labelKey l
 unfolding storedKey
 stored-key text unkeyed h = refl
 stored-key text (intKey a) h = refl

@@ -8,10 +8,9 @@ use lib.Seq.{take-at}
 use Rattle.row.specs.Row.{recordWidth, kindWord}
 use Rattle.key.specs.Keys.{Key}
 use Rattle.row.specs.Words.{recordCount, word}
-use Rattle.records.specs.Siblings.{WellFormed, ForSome}
 use Rattle.records.specs.Nodes.{Nodes, node, plug}
-use Rattle.records.specs.Holds.{Holds}
-use Rattle.records.proofs.Held.{node-used, kind-is, well-formed, other-text}
+use Rattle.records.specs.Holds.{Holds, HoldsSome}
+use Rattle.records.proofs.Held.{node-used, kind-is, other-text}
 use Rattle.reading.specs.Values.{Node}
 use Rattle.reading.specs.Charging.{Environment}
 use Rattle.reading.specs.Records.{kind}
@@ -63,17 +62,28 @@ module _ {env : Environment} {ws text : List ℕ} {here : Here} {path : List Key
           fill = s .stores .fill;
         };
         leads = s .leads;
+        aided = s .aided;
       }
     where
       front : take (here .bytes) text ≡ laid
       front = ap (take (here .bytes)) (s .stores .full) ∙ take-at laid (s .stores .free) (here .bytes) (sym (s .stores .fill))
 
   -- The same tree, for a command at its root.
-  pub at-root : StoredAt env ws text (record { records = here .records; bytes = here .bytes; node = 0 }) [] tree laid
-  at-root = record { lent-is = s .lent-is; stores = s .stores; leads = root tree }
+  pub at-root : StoredAt env ws text (record { records = here .records; bytes = here .bytes; node = 0; aids = here .aids }) [] tree laid
+  at-root = record { lent-is = s .lent-is; stores = s .stores; leads = root tree; aided = s .aided }
 
   pub some : SomeStoredAt ws text here
-  some = record { path = path; tree = tree; laid = laid; stored = record { lent-is = refl; stores = s .stores; leads = s .leads } }
+  some =
+      record {
+        path = path;
+        tree = tree;
+        laid = laid;
+        stored = record { lent-is = refl; stores = s .stores; leads = s .leads; aided = s .aided };
+      }
+
+  -- The forest that stands in the words.
+  pub some-stored : HoldsSome ws text (here .records)
+  some-stored = record { forest = rooted tree; holds = s .stores .holds }
 
 -- What is asked of the words.
 module _ {ws text : List ℕ} {here : Here} (s : SomeStoredAt ws text here) where
@@ -85,10 +95,3 @@ module _ {ws text : List ℕ} {here : Here} (s : SomeStoredAt ws text here) wher
 
   pub stand-used : here .node < here .records
   stand-used = at-used (s .stored .stores) (s .stored .leads)
-
-  -- What `find` asks, and what `append` asks with another text.
-  pub stand-among : ForSome (λ used. WellFormed ws text used × (here .node < used))
-  stand-among = record { used = here .records; holds = (well-formed (s .stored .stores .holds), stand-used) }
-
-  pub stand-other : (text' : List ℕ) → length text' ≡ length text → WellFormed ws text' (here .records)
-  stand-other text' e = well-formed (other-text (s .stored .stores .holds) text' e)

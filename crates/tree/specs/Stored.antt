@@ -6,6 +6,7 @@ use lib.ListN.{length, take, replicate}
 use Rattle.key.specs.Keys.{Key}
 use Rattle.records.specs.Nodes.{Nodes, node, Context, plug}
 use Rattle.records.specs.Holds.{Holds}
+use Rattle.records.specs.Aids.{Aided}
 use Rattle.reading.specs.Values.{Row, Value, Node, at}
 use Rattle.reading.specs.Charging.{Environment, Used, NodeRule, over}
 use Rattle.reading.specs.Adding.{atPath}
@@ -58,12 +59,14 @@ put leads w = leads .back (at (leads .row) w)
 abbrev pub usedBy : Here → List ℕ → Used
 usedBy here laid = record { records = here .records; text = laid }
 
--- A tree stands in what is lent, with these counts, and the path leads to the record that a command is for.
+-- A tree stands in what is lent, with these counts, and the path leads to the record that a command is for. What the
+-- aids have is right for it.
 pub record StoredAt
     (env : Environment) (ws text : List ℕ) (here : Here) (path : List Key) (tree : Node) (laid : List ℕ) : Type 0 where
   pub lent-is : env .lent ≡ lentBy ws text
   pub stores : Stores ws text (here .records) (here .bytes) tree laid
   pub leads : Leads path tree (here .node)
+  pub aided : Aided ws (here .records) (here .aids)
 
 -- Some tree stands there.
 pub record SomeStoredAt (ws text : List ℕ) (here : Here) : Type 0 where

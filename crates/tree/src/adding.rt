@@ -1,17 +1,21 @@
 // A value added at a record.
 ghost use mathlib.Core.Path.{_≡_};
+ghost use Prim.Native.Nat.{_+_, _<_, _^_};
 ghost use lib.ListN.{length};
+ghost use Rattle.decode.specs.Shown.{lengthOf};
 ghost use Rattle.reading.specs.Leaves.{leafOf};
-ghost use Rattle.tree.specs.NewValues.{newValueWords};
+ghost use Rattle.tree.specs.NewValues.{newValueWords, appendedAt};
 ghost use Rattle.tree.specs.Stored.{SomeStoredAt};
 ghost use Rattle.tree.specs.Commands.{Performs, appends, stays, Countable, AddsAtMost};
 use crate::Here;
 use crate::Performed;
 use crate::laying;
+use aids::Among;
 use decode::Decoded;
 use reading::LeafKind;
 use records::appending;
 use records::appending::Appended;
+use records::finding;
 use records::store::ValueWords;
 use refusals::Refusal;
 
@@ -38,6 +42,22 @@ fn value_words(kind: LeafKind, offset: u32, len: u32) -> ValueWords
     }
 }
 
+// The answer where there were enough records: how the tree stands then, or that the text doesn't fit.
+fn answer(here: Here, laid: Decoded, records: u32) -> Performed
+    requires { ⌜ here .bytes + lengthOf laid < 2 ^ 32 ⌝ }
+    ensures { λ r. ⌜ r ≡ appendedAt here laid records ⌝ }
+{
+    match laid {
+        Decoded::Yes(len) => Performed::Made(Here {
+            records,
+            bytes: here.bytes + len as u32,
+            node: here.node,
+            aids: finding::aids_for(here.aids, records),
+        }),
+        Decoded::No => Performed::Refused(Refusal::TooLittleText),
+    }
+}
+
 // Adds a value at the record, by the rule of Adding. The text comes first: where it doesn't fit, the rule runs all the
 // same, to tell whether the records are too few, which is the refusal then. After a refusal what the words and the
 // text hold is free.
@@ -53,24 +73,15 @@ pub fn append_value(
         here (appends (leafOf kind (now (value .entry)))) stays r ⌝ }
     ensures adds { λ r. ⌜ AddsAtMost here (length (now (value .entry))) r ⌝ }
 {
-    match laying::lay_value(kind, value, text, here.bytes as usize) {
-        Decoded::Yes(len) => {
-            let new = value_words(kind, here.bytes, len as u32);
-            match appending::append(words, text, here.records, here.node, new) {
-                Appended::Used(records) => Performed::Made(Here {
-                    records,
-                    bytes: here.bytes + len as u32,
-                    node: here.node,
-                }),
-                Appended::TooFew => Performed::Refused(Refusal::TooFewRecords),
-            }
-        }
-        Decoded::No => {
-            let new = value_words(kind, 0, 0);
-            match appending::append(words, text, here.records, here.node, new) {
-                Appended::Used(_) => Performed::Refused(Refusal::TooLittleText),
-                Appended::TooFew => Performed::Refused(Refusal::TooFewRecords),
-            }
-        }
+    let laid = laying::lay_value(kind, value, text, here.bytes as usize);
+    let new = value_words(kind, here.bytes, decode::answered_len(laid) as u32);
+    let among = Among {
+        parent: here.node,
+        used: here.records,
+        aids: here.aids,
+    };
+    match appending::add(words, text, among, new) {
+        Appended::Used(records) => answer(here, laid, records),
+        Appended::TooFew => Performed::Refused(Refusal::TooFewRecords),
     }
 }

@@ -1,22 +1,28 @@
 // A key entered in the map at a record.
 ghost use mathlib.Core.Path.{_≡_};
-ghost use Prim.Native.Nat.{_≤_, _<_};
+ghost use Prim.Native.Nat.{_+_, _≤_};
 ghost use Rattle.decode.specs.Shown.{lengthOf};
 ghost use lib.ListN.{length};
-ghost use Rattle.row.specs.Words.{recordCount};
 ghost use Rattle.records.specs.Keys.{meantKey};
-ghost use Rattle.records.specs.Siblings.{position, WellFormed, ForSome};
+ghost use Rattle.aids.specs.Kept.{freeFrom, Kept};
+ghost use Rattle.records.specs.Siblings.{position};
+ghost use Rattle.records.specs.Aids.{Gap};
 ghost use Rattle.reading.specs.Adding.{keyText};
 ghost use Rattle.tree.specs.Laying.{LiesBehind};
-ghost use Rattle.tree.specs.Entering.{newStringWords, newKeyWords, soughtBytes, unlaid, Entered};
+ghost use Rattle.tree.specs.Entering.{newStringWords, newKeyWords, newRecord, MapReady, Entered};
 ghost use Rattle.tree.specs.Stored.{SomeStoredAt};
 ghost use Rattle.tree.specs.Commands.{Performs, enters, further, Countable, AddsAtMost};
 use crate::Here;
 use crate::Performed;
 use crate::laying;
 use crate::needing;
+use aids::Among;
 use decode::Decoded;
 use key::KeyKind;
+use records::finding;
+use records::finding::Walk;
+use records::growing;
+use records::keys;
 use records::siblings;
 use records::siblings::Position;
 use records::store::KeyWords;
@@ -57,76 +63,84 @@ fn key_words(key: KeyKind, offset: u32, len: u32) -> KeyWords
     }
 }
 
-// The bytes to compare a String key by: those shown of it where it is laid in the tail, else the raw ones.
-fn sought_bytes<'a>(raw: &'a [u8], tail: &'a [u8], laid: Decoded) -> &'a [u8]
-    ensures { λ r. ⌜ now r ≡ soughtBytes (now (raw .entry)) (now (tail .entry)) laid ⌝ }
-{
-    match laid {
-        Decoded::Yes(_) => decode::shown(raw, tail, laid),
-        Decoded::No => raw,
-    }
-}
-
-// Whether a key could not be laid, so that it is to be decoded on the way.
-fn is_unlaid(laid: Decoded) -> bool
-    ensures { λ r. ⌜ r ≡ unlaid laid ⌝ }
-{
-    match laid {
-        Decoded::Yes(_) => false,
-        Decoded::No => true,
-    }
-}
-
-// The position of a key among the children of the record, once its text was to be laid behind what is used.
-fn find_key<'a>(
-    words: &[u32],
-    text: &'a [u8],
+// The position of a key among the children of the record, a Map, once its text was to be laid behind what is used: by
+// its text there, with the aids, or else by the raw segment. The child touched last comes first.
+fn find_key(
+    words: &mut [u32],
+    text: &[u8],
     here: Here,
     key: KeyKind,
-    raw: &'a [u8],
+    raw: &[u8],
     laid: Decoded,
 ) -> Position
-    requires { ⌜ ForSome (λ used. WellFormed (now words) (now text) used × (here .node < used)) ⌝
-        ∗ ⌜ (here .bytes ≤ length (now text))
-        × LiesBehind (now text) (here .bytes) (keyText (meantKey key (now raw))) laid ⌝ }
-    ensures { λ r. ⌜ r ≡ position (now (words .entry)) (now (text .entry)) (meantKey key (now (raw .entry)))
+    requires { ⌜ MapReady (now words) (now text) here ⌝
+        ∗ ⌜ LiesBehind (now text) (here .bytes) (keyText (meantKey key (now raw))) laid ⌝ }
+    ensures position { λ r. ⌜ r ≡ position (now (words .entry)) (now (text .entry)) (meantKey key (now (raw .entry)))
         (here .node) ⌝ }
+    ensures kept { λ _. ⌜ Kept (freeFrom (here .aids)) (now (words .entry)) (now (words .exit)) ⌝ }
 {
-    let used = here.bytes as usize;
-    let bytes = sought_bytes(raw, &text[used..], laid);
-    siblings::find(words, text, here.node, key, bytes, is_unlaid(laid))
+    match laid {
+        Decoded::Yes(len) => {
+            let among = Among {
+                parent: here.node,
+                used: here.records,
+                aids: here.aids,
+            };
+            let start = here.bytes as usize;
+            let again = finding::find_again(words, text, among, key, &text[start..start + len]);
+            if again != 0 {
+                return Position::Found(again);
+            }
+            let tag = keys::tag_of(key, text, start, len);
+            finding::find(words, text, among, tag, &text[start..start + len])
+        }
+        Decoded::No => siblings::find(words, text, here.node, key, raw, true),
+    }
 }
 
-// Enters a new key, whose position is between prev and next among the children of the record: an Uninitialized child.
-// Its text is laid already, or doesn't fit; the records are checked before that. Without room for both nothing changes.
+// The record of a new child, Uninitialized, whose key's text, if it has any, is laid at an offset with a length.
+fn new_record(key: KeyKind, offset: u32, len: u32) -> Record
+    ensures { λ r. ⌜ r ≡ newRecord key offset len ⌝ }
+{
+    Record {
+        key: key_words(key, offset, len),
+        value: ValueWords {
+            kind: row::UNINITIALIZED,
+            offset: 0,
+            len: 0,
+        },
+    }
+}
+
+// Enters a new key, whose position is a gap among the children of the record, a Map: an Uninitialized child. Its text
+// is laid already, or doesn't fit; the records are checked before that. Without room for both nothing changes.
 fn enter_new(
     words: &mut [u32],
+    text: &[u8],
     here: Here,
-    prev: u32,
-    next: u32,
+    gap: Walk,
     key: KeyKind,
     laid: Decoded,
 ) -> Performed
-    requires { ⌜ (here .node < recordCount (now words)) × (prev < recordCount (now words))
-        × Countable here 2 (lengthOf laid) ⌝ }
-    ensures { λ r. ⌜ Entered (now (words .entry)) here prev next key (now (words .exit)) laid r ⌝ }
+    requires { ⌜ MapReady (now words) (now text) here × Gap (now words) (here .node) (gap .prev) (gap .cur) ⌝
+        ∗ ⌜ Countable here 2 (lengthOf laid) × (here .bytes + lengthOf laid ≤ length (now text)) ⌝ }
+    ensures { λ r. ⌜ Entered (now (words .entry)) here gap key (now (words .exit)) laid r ⌝ }
 {
     if row::has_room(words, here.records + 1) {
         match laid {
             Decoded::Yes(len) => {
-                let new = Record {
-                    key: key_words(key, here.bytes, len as u32),
-                    value: ValueWords {
-                        kind: row::UNINITIALIZED,
-                        offset: 0,
-                        len: 0,
-                    },
+                let among = Among {
+                    parent: here.node,
+                    used: here.records,
+                    aids: here.aids,
                 };
-                siblings::insert(words, here.records, here.node, prev, next, new);
+                let new = new_record(key, here.bytes, len as u32);
+                growing::insert_child(words, text, among, gap, new);
                 Performed::Made(Here {
                     records: here.records + 1,
                     bytes: here.bytes + len as u32,
                     node: here.records,
+                    aids: finding::aids_for(here.aids, here.records + 1),
                 })
             }
             Decoded::No => Performed::Refused(Refusal::TooLittleText),
@@ -153,8 +167,12 @@ pub fn enter(words: &mut [u32], text: &mut [u8], here: Here, key: KeyKind, raw: 
                     records: here.records,
                     bytes: here.bytes,
                     node: m,
+                    aids: here.aids,
                 }),
-                Position::Between(prev, next) => enter_new(words, here, prev, next, key, laid),
+                Position::Between(prev, next) => {
+                    let gap = Walk { prev, cur: next };
+                    enter_new(words, text, here, gap, key, laid)
+                }
             }
         }
         Performed::Refused(refusal) => Performed::Refused(refusal),

@@ -2,6 +2,9 @@
 #![allow(dead_code)]
 
 pub mod inputs;
+pub mod kinds;
+pub mod mixtures;
+pub mod orders;
 pub mod programs;
 pub mod rows;
 pub mod whatwg;
@@ -47,6 +50,12 @@ impl Random {
         (0..length)
             .map(|_| alphabet[self.below(alphabet.len())])
             .collect()
+    }
+
+    pub fn shuffle<T>(&mut self, items: &mut [T]) {
+        for i in (1..items.len()).rev() {
+            items.swap(i, self.below(i + 1));
+        }
     }
 
     /// Changes, drops or adds one byte, or cuts the end off.

@@ -5,15 +5,15 @@ use borrow.Author.Needs.{needs}
 use Rattle.parse.proofs.parse_some.Statement.{statement}
 use Rattle.parse.proofs.parse_some.Tie as tie
 
-write-root-requires : tie.Need-write-root-requires
-write-root-requires c κs = search needs
+begin-requires : tie.Need-begin-requires
+begin-requires c κs = search needs
 
 parse-pairs-requires : tie.Need-parse-pairs-requires
 parse-pairs-requires c κs =
-    let at-write-root = c .before .before .before .before in
-    let start = at-write-root .before .before .before .before .before in (
+    let at-begin = c .before .before .before .before in
+    let start = at-begin .before .before .before .before .before in (
       start-ready (start .args .config) (start .args .input .now) (start .args .words .now) (start .args .text .now) (start .pre .1) (start .pre .2)
-          (at-write-root .write-root .ensures),
+          (at-begin .begin .ensures),
       omega (arith, start .pre .1),
     )
 
@@ -24,10 +24,10 @@ clear-unused-requires : tie.Need-clear-unused-requires
 clear-unused-requires c κs =
     let at-here = c .before .before .before in
     let at-parse-pairs = at-here .before .before .before .before .before .before in
-    let at-write-root = at-parse-pairs .before .before .before .before .before in
-    let start = at-write-root .before .before .before .before .before in
+    let at-begin = at-parse-pairs .before .before .before .before .before in
+    let start = at-begin .before .before .before .before .before in
     used-inside (start .args .config) (start .args .input .now) (start .args .words .now) (start .args .text .now) (start .pre .1) (start .pre .2)
-    (at-write-root .write-root .ensures) (start .pre .0) _ _
+    (at-begin .begin .ensures) (start .pre .0) _ _
     (at-parse-pairs .parse-pairs .kept .1 .1 .0) (at-parse-pairs .parse-pairs .kept .1 .1 .1 .0) (at-parse-pairs .parse-pairs .ensures)
     (at-here .here .given .1)
 
@@ -37,12 +37,12 @@ enum-known-refusal c = search needs
 cast-at : tie.Need-cast-at
 cast-at c =
     let at-parse-pairs = c .before .before .before .before .before .before .before in
-    let at-write-root = at-parse-pairs .before .before .before .before .before in
-    let start = at-write-root .before .before .before .before .before in
+    let at-begin = at-parse-pairs .before .before .before .before .before in
+    let start = at-begin .before .before .before .before .before in
     omega (
       arith,
       place-inside (start .args .config) (start .args .input .now) (start .args .words .now) (start .args .text .now) (start .pre .1) (start .pre .2)
-          (at-write-root .write-root .ensures) (start .pre .0) _ _
+          (at-begin .begin .ensures) (start .pre .0) _ _
           (at-parse-pairs .parse-pairs .kept .1 .1 .0) (at-parse-pairs .parse-pairs .kept .1 .1 .1 .0) (at-parse-pairs .parse-pairs .ensures)
           (c .before .refusal .given .1),
     )
@@ -64,10 +64,10 @@ returns c =
     let at-clear-unused = c .before .before .before .before in
     let at-here = at-clear-unused .before .before .before .before in
     let at-parse-pairs = at-here .before .before .before .before .before .before in
-    let at-write-root = at-parse-pairs .before .before .before .before .before in
-    let start = at-write-root .before .before .before .before .before in
+    let at-begin = at-parse-pairs .before .before .before .before .before in
+    let start = at-begin .before .before .before .before .before in
     some-accepted (start .args .config) (start .args .input .now) (start .args .words .now) (start .args .text .now) (start .pre .1) (start .pre .2)
-    (at-write-root .write-root .ensures) (start .pre .0) _ _
+    (at-begin .begin .ensures) (start .pre .0) _ _
     (at-parse-pairs .parse-pairs .kept .1 .1 .0) (at-parse-pairs .parse-pairs .kept .1 .1 .1 .0) (at-parse-pairs .parse-pairs .ensures)
     (at-here .here .given .1) (at-clear-unused .clear-unused .ensures)
 
@@ -83,10 +83,10 @@ returns-2 c =
     let at-clear-words = at-clear-text .before .before .before .before in
     let at-refusal = at-clear-words .before .before .before in
     let at-parse-pairs = at-refusal .before .before .before .before .before .before in
-    let at-write-root = at-parse-pairs .before .before .before .before .before in
-    let start = at-write-root .before .before .before .before .before in
+    let at-begin = at-parse-pairs .before .before .before .before .before in
+    let start = at-begin .before .before .before .before .before in
     some-refused (start .args .config) (start .args .input .now) (start .args .words .now) (start .args .text .now) (start .pre .1) (start .pre .2)
-    (at-write-root .write-root .ensures) (start .pre .0) _ _
+    (at-begin .begin .ensures) (start .pre .0) _ _
     (at-parse-pairs .parse-pairs .kept .1 .1 .0) (at-parse-pairs .parse-pairs .kept .1 .1 .1 .0) (at-parse-pairs .parse-pairs .ensures)
     (at-refusal .refusal .given .1) (at-clear-words .clear-words .ensures)
     (at-clear-text .clear-text .ensures)
@@ -95,7 +95,7 @@ pub parse-some-spec : {M : Type 1} → statement M
 parse-some-spec =
     tie.close
     (tie.spec
-    write-root-requires
+    begin-requires
     parse-pairs-requires
     enum-known-here
     clear-unused-requires

@@ -1,6 +1,7 @@
 -- By the kind, as in the definition: Uninitialized becomes the value, a Sequence gets it last, the rest make a pair.
-use borrow.Author.Needs.{needs}
 use Rattle.records.proofs.Added.{at-uninitialized, at-sequence, at-single}
+use Rattle.records.proofs.Grows.{grown-valued}
+use borrow.Author.Needs.{needs}
 use Rattle.records.proofs.appending.append_here.Statement.{statement}
 use Rattle.records.proofs.appending.append_here.Tie as tie
 
@@ -18,7 +19,10 @@ returns c =
     let at-set-value = c .before .before in
     let at-if1 = at-set-value .before .before in
     let at-get-word = at-if1 .before in
-    at-uninitialized _ _ _ _ (at-get-word .get-word .ensures) (at-if1 .if1 .taken) (at-set-value .set-value .ensures)
+    let start = at-get-word .before .before .before in
+    at-uninitialized _ _ _ _ (at-get-word .get-word .ensures) (at-if1 .if1 .taken)
+    (rw (at-set-value .set-value .ensures) (grown-valued (start .pre .0 .ready .holds) (start .pre .0 .ready .aided) (start .pre .0 .inside)
+    (start .args .value)))
 
 push-requires : tie.Need-push-requires
 push-requires c κs = search needs

@@ -1,9 +1,8 @@
--- By whether a record is left: the new one follows the last child.
+-- By whether a record is left.
 use native.Mathlib.Omega.{arith}
-use borrow.Author.Needs.{needs}
 use Rattle.records.specs.Adding.{pushed}
-use Rattle.records.proofs.Chains.{last-inside}
-use Rattle.records.proofs.Added.{room, with-room, no-room, last-inserted}
+use Rattle.records.proofs.Added.{room, with-room, no-room}
+use borrow.Author.Needs.{needs}
 use Rattle.records.proofs.appending.push.Statement.{statement}
 use Rattle.records.proofs.appending.push.Tie as tie
 
@@ -13,27 +12,19 @@ add-has-room c = search needs
 has-room-requires : tie.Need-has-room-requires
 has-room-requires c κs = search needs
 
-last-child-requires : tie.Need-last-child-requires
-last-child-requires c κs =
-    let start = c .before .before .before .before .before in
-    record { used = start .args .used; holds = (start .pre .0, start .pre .1 .0) }
-
 unkeyed-requires : tie.Need-unkeyed-requires
 unkeyed-requires c κs = search needs
 
-insert-requires : tie.Need-insert-requires
-insert-requires c κs =
-    let at-last-child = c .before .before in
-    let at-if1 = at-last-child .before .before in
+insert-last-requires : tie.Need-insert-last-requires
+insert-last-requires c κs =
+    let at-if1 = c .before .before in
     let at-has-room = at-if1 .before in
-    let start = at-has-room .before .before .before in (
-      omega (arith, room (start .args .words .now) _ (at-has-room .has-room .ensures) (at-if1 .if1 .taken)),
-      omega (arith, start .pre .1 .0, start .pre .0 .room),
-      rw (at-last-child .last-child .ensures) (omega (arith, last-inside (start .pre .0) _ (start .pre .1 .0), start .pre .0 .room)),
-    )
+    let start = at-has-room .before .before .before .before in
+    rw (c .unkeyed .ensures)
+    (start .pre, (omega (arith, room (start .args .words .now) _ (at-has-room .has-room .ensures) (at-if1 .if1 .taken)), λ text no-int. omega arith))
 
-add-t17 : tie.Need-add-t17
-add-t17 c = search needs
+add-t13 : tie.Need-add-t13
+add-t13 c = search needs
 
 same-length : tie.Need-same-length
 same-length c = search needs
@@ -41,15 +32,13 @@ same-length c = search needs
 returns : tie.Need-returns
 unfolding pushed
 returns c =
-    let at-insert = c .before .before in
-    let at-unkeyed = at-insert .before in
-    let at-last-child = at-unkeyed .before .before in
-    let at-if1 = at-last-child .before .before in
+    let at-insert-last = c .before .before .before in
+    let at-unkeyed = at-insert-last .before in
+    let at-if1 = at-unkeyed .before .before in
     let at-has-room = at-if1 .before in
-    let start = at-has-room .before .before .before in
+    let start = at-has-room .before .before .before .before in
     with-room (start .args .words .now) _ (at-has-room .has-room .ensures) _ (at-if1 .if1 .taken)
-    (last-inserted (start .args .words .now) (start .args .used) (start .args .n) (start .args .value) _ _ (at-last-child .last-child .ensures)
-    (at-unkeyed .unkeyed .ensures) (at-insert .insert .ensures))
+    (rw (at-unkeyed .unkeyed .ensures) at (at-insert-last .insert-last .ensures))
 
 same-length-2 : tie.Need-same-length-2
 same-length-2 c = search needs
@@ -57,7 +46,7 @@ same-length-2 c = search needs
 returns-2 : tie.Need-returns-2
 unfolding pushed
 returns-2 c =
-    let start = c .before .before .before .before in
+    let start = c .before .before .before .before .before in
     no-room (start .args .words .now) _ (c .before .has-room .ensures) _ (c .if1 .left)
 
 pub push-spec : {M : Type 1} → statement M
@@ -66,10 +55,9 @@ push-spec =
     (tie.spec
     add-has-room
     has-room-requires
-    last-child-requires
     unkeyed-requires
-    insert-requires
-    add-t17
+    insert-last-requires
+    add-t13
     same-length
     returns
     same-length-2

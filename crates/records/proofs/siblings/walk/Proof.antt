@@ -6,7 +6,8 @@ use lib.ListN.{length}
 use Rattle.row.specs.Words.{recordCount}
 use Rattle.records.specs.Keys.{soughtKey}
 use Rattle.records.specs.Siblings.{chain, standing}
-use Rattle.records.proofs.Chains.{Walking, walking-record, walking-key, walking-falls, walking-on, walking-found, walking-past, walking-end}
+use Rattle.records.proofs.Chains.{walking-record, walking-key, walking-falls, walking-on, walking-found, walking-past, walking-end}
+use Rattle.records.specs.Siblings.{Walking}
 use Rattle.records.proofs.siblings.walk.Statement.{statement}
 use Rattle.records.proofs.siblings.walk.Tie as tie
 

@@ -1,8 +1,15 @@
--- By what laying and adding answer: the ways of AppendWays.
+-- By what adding answers: the ways of AppendWays, in words that are ready where a tree stands.
 use native.Mathlib.Omega.{arith}
-use Rattle.tree.proofs.StoredTrees.{stand-used, stand-end, stand-other}
-use Rattle.tree.proofs.Bounds.{leaf-laid-le, append-modest}
-use Rattle.tree.proofs.AppendWays.{append-made, append-few, unfit-little, unfit-few}
+use mathlib.Core.Path.{ap, _∙_}
+use Prim.Native.Nat.{ℕ}
+use Rattle.reading.specs.Leaves.{leafOf}
+use Rattle.reading.specs.Adding.{leafText}
+use Rattle.tree.specs.NewValues.{newValueWords}
+use Rattle.tree.proofs.StoredTrees.{stand-used, stand-end}
+use Rattle.tree.proofs.Leaves.{ready-stored}
+use Rattle.tree.proofs.Bounds.{leaf-laid-len, append-modest}
+use Rattle.tree.proofs.AppendWays.{append-enough, append-too-few}
+use Rattle.tree.proofs.EnterWays.{laid-standing}
 use borrow.Author.Needs.{needs}
 use Rattle.tree.proofs.adding.append_value.Statement.{statement}
 use Rattle.tree.proofs.adding.append_value.Tie as tie
@@ -11,81 +18,51 @@ cast-lay-value : tie.Need-cast-lay-value
 cast-lay-value c = search needs
 
 lay-value-requires : tie.Need-lay-value-requires
-lay-value-requires c κs =
-    let start = c .before .before .before .before .before in
-    stand-end (start .pre .0)
+lay-value-requires c κs = let start = c .before .before .before .before .before in stand-end (start .pre .0)
 
-enum-known-len : tie.Need-enum-known-len
-enum-known-len c = search needs
+answered-len-requires : tie.Need-answered-len-requires
+answered-len-requires c κs = search needs
 
 cast-value-words : tie.Need-cast-value-words
 cast-value-words c =
-    let at-len = c .before in
-    let at-lay-value = at-len .before .before .before .before in
+    let at-lay-value = c .before .before .before in
     let start = at-lay-value .before .before .before .before .before .before in
     omega (
       arith,
+      c .answered-len .ensures,
+      leaf-laid-len (start .args .text .now) (start .args .here .bytes) (start .args .kind)
+          (start .args .value .now) (at-lay-value .lay-value .result) (at-lay-value .lay-value .ensures .0),
       start .pre .1 .1,
-      leaf-laid-le (start .args .text .now) (start .args .here .bytes) (start .args .kind) (start .args .value .now)
-          (at-lay-value .lay-value .ensures .0) (at-len .len .given .1),
     )
 
 value-words-requires : tie.Need-value-words-requires
 value-words-requires c κs = search needs
 
-append-requires : tie.Need-append-requires
-append-requires c κs =
-    let at-lay-value = c .before .before .before .before .before .before .before .before in
-    let start = at-lay-value .before .before .before .before .before .before in
-    (stand-other (start .pre .0) (at-lay-value .lay-value .last .1 .1 .0) (search needs), (stand-used (start .pre .0), start .pre .1 .0))
+add-requires : tie.Need-add-requires
+add-requires c κs =
+    let at-lay-value = c .before .before .before .before .before .before in
+    let start = at-lay-value .before .before .before .before .before .before in (
+      ready-stored (laid-standing (leafText (leafOf (start .args .kind) (start .args .value .now))) (at-lay-value .lay-value .ensures .1)
+          (start .pre .0) .stored),
+      (stand-used (start .pre .0), start .pre .1 .0),
+    )
 
 enum-known-records : tie.Need-enum-known-records
 enum-known-records c = search needs
 
-cast-t22 : tie.Need-cast-t22
-cast-t22 c =
-    let at-len = c .before .before .before .before .before .before .before .before .before .before in
-    let at-lay-value = at-len .before .before .before .before in
+answer-requires : tie.Need-answer-requires
+answer-requires c κs =
+    let at-lay-value = c .before .before .before .before .before .before .before .before .before .before .before .before in
     let start = at-lay-value .before .before .before .before .before .before in
     omega (
       arith,
+      leaf-laid-len (start .args .text .now) (start .args .here .bytes) (start .args .kind) (start .args .value .now)
+          (at-lay-value .lay-value .result) (at-lay-value .lay-value .ensures .0),
       start .pre .1 .1,
-      leaf-laid-le (start .args .text .now) (start .args .here .bytes) (start .args .kind) (start .args .value .now)
-          (at-lay-value .lay-value .ensures .0) (at-len .len .given .1),
-    )
-
-add-t23 : tie.Need-add-t23
-add-t23 c =
-    let at-len = c .before .before .before .before .before .before .before .before .before .before .before in
-    let at-lay-value = at-len .before .before .before .before in
-    let start = at-lay-value .before .before .before .before .before .before in
-    omega (
-      arith,
-      start .pre .1 .1,
-      leaf-laid-le (start .args .text .now) (start .args .here .bytes) (start .args .kind) (start .args .value .now)
-          (at-lay-value .lay-value .ensures .0) (at-len .len .given .1),
     )
 
 enum-told : tie.Need-enum-told
 enum-told c = search needs
-
-enum-told-2 : tie.Need-enum-told-2
-enum-told-2 c = search needs
-
-value-words-requires-2 : tie.Need-value-words-requires-2
-value-words-requires-2 c κs = search needs
-
-append-requires-2 : tie.Need-append-requires-2
-append-requires-2 c κs =
-    let at-lay-value = c .before .before .before .before .before .before .before in
-    let start = at-lay-value .before .before .before .before .before .before in
-    (stand-other (start .pre .0) (at-lay-value .lay-value .last .1 .1 .0) (search needs), (stand-used (start .pre .0), start .pre .1 .0))
-
-enum-told-3 : tie.Need-enum-told-3
-enum-told-3 c = search needs
-
-enum-told-4 : tie.Need-enum-told-4
-enum-told-4 c = search needs
 
 same-length : tie.Need-same-length
 same-length c = search needs
@@ -95,16 +72,33 @@ same-length-2 c = search needs
 
 returns : tie.Need-returns
 returns c =
-    let at-records = c .before .before in
-    let at-append = at-records .before .before .before .before in
-    let at-value-words = at-append .before .before .before in
-    let at-len = at-value-words .before .before in
-    let at-lay-value = at-len .before .before .before .before in
-    let start = at-lay-value .before .before .before .before .before .before in
-    let does = append-made (start .args .words .now) (start .args .text .now) (start .args .here) (start .args .kind) (start .args .value .now)
-    (at-value-words .value-words .result) (at-lay-value .lay-value .ensures .0) (at-lay-value .lay-value .ensures .1) (at-append .append .ensures)
-    (at-len .len .given .1) (at-value-words .value-words .ensures) (at-records .records .given .1) (search needs) in
-    (does, append-modest (start .pre .0) (start .args .kind) (start .args .value .now) does)
+    let does = append-enough (c .before .before .before .before .before .before .before .before .before .before .before .before .before .before
+    .before .before .before .before .before .args .words .now)
+    (c .before .before .before .before .before .before .before .before .before .before .before .before .before .before .before .before .before
+    .before .before .args .text .now) (c .before .before .before .before .before .before .before .before .before .before .before .before .before
+    .before .before .before .before .before .before .args .here)
+    (c .before .before .before .before .before .before .before .before .before .before .before .before .before .before .before .before .before
+    .before .before .args .kind) (c .before .before .before .before .before .before .before .before .before .before .before .before .before .before
+    .before .before .before .before .before .args .value .now)
+    (c .before .before .before .before .before .before .before .before .before .value-words .result)
+    (c .before .before .before .before .before .before .before .before .before .before .before .before .before .lay-value .ensures .0)
+    (c .before .before .before .before .before .before .before .before .before .before .before .before .before .lay-value .ensures .1)
+    (c .before .before .before .before .before .before .add .ensures)
+    (c .before .before .before .before .before .before .before .before .before .value-words .ensures ∙ ap
+    (λ (n : ℕ). newValueWords (c .before .before .before .before .before .before .before .before .before .before .before .before .before .before
+    .before .before .before .before .before .args .kind)
+    (c .before .before .before .before .before .before .before .before .before .before .before .before .before .before .before .before .before
+    .before .before .args .here .bytes) n) (c .before .before .before .before .before .before .before .before .before .before .answered-len
+    .ensures)) (c .before .before .records .given .1) (search needs) in
+    rw (c .answer .ensures) (
+      does,
+      append-modest
+          (c .before .before .before .before .before .before .before .before .before .before .before .before .before .before .before .before .before
+          .before .before .pre .0) (c .before .before .before .before .before .before .before .before .before .before .before .before .before .before
+          .before .before .before .before .before .args .kind)
+          (c .before .before .before .before .before .before .before .before .before .before .before .before .before .before .before .before .before
+          .before .before .args .value .now) does,
+    )
 
 same-length-3 : tie.Need-same-length-3
 same-length-3 c = search needs
@@ -114,52 +108,15 @@ same-length-4 c = search needs
 
 returns-2 : tie.Need-returns-2
 returns-2 c =
-    let at-append = c .before .before .before .before in
-    let at-value-words = at-append .before .before .before in
-    let at-len = at-value-words .before .before in
-    let at-lay-value = at-len .before .before .before .before in
+    let at-add = c .before .before .before .before in
+    let at-value-words = at-add .before .before .before in
+    let at-answered-len = at-value-words .before in
+    let at-lay-value = at-answered-len .before .before .before in
     let start = at-lay-value .before .before .before .before .before .before in (
-      append-few (start .args .words .now) (start .args .text .now) (start .args .here) (start .args .kind) (start .args .value .now)
-          (at-value-words .value-words .result) (at-lay-value .lay-value .ensures .0) (at-lay-value .lay-value .ensures .1) (at-append .append .ensures)
-          (at-len .len .given .1) (at-value-words .value-words .ensures) (c .enum-told .given .1),
-      tt,
-    )
-
-same-length-5 : tie.Need-same-length-5
-same-length-5 c = search needs
-
-same-length-6 : tie.Need-same-length-6
-same-length-6 c = search needs
-
-returns-3 : tie.Need-returns-3
-returns-3 c =
-    let at-append2 = c .before .before .before .before in
-    let at-value-words2 = at-append2 .before .before .before in
-    let at-enum-told2 = at-value-words2 .before in
-    let at-lay-value = at-enum-told2 .before .before .before .before in
-    let start = at-lay-value .before .before .before .before .before .before in (
-      unfit-little (start .args .words .now) (start .args .text .now) (start .args .here) (start .args .kind) (start .args .value .now)
-          (at-value-words2 .value-words2 .result) (at-lay-value .lay-value .ensures .0) (at-lay-value .lay-value .ensures .1) (at-append2 .append2 .ensures)
-          (at-enum-told2 .enum-told2 .given .1) (c .enum-told3 .given .1),
-      tt,
-    )
-
-same-length-7 : tie.Need-same-length-7
-same-length-7 c = search needs
-
-same-length-8 : tie.Need-same-length-8
-same-length-8 c = search needs
-
-returns-4 : tie.Need-returns-4
-returns-4 c =
-    let at-append2 = c .before .before .before .before in
-    let at-value-words2 = at-append2 .before .before .before in
-    let at-enum-told2 = at-value-words2 .before in
-    let at-lay-value = at-enum-told2 .before .before .before .before in
-    let start = at-lay-value .before .before .before .before .before .before in (
-      unfit-few (start .args .words .now) (start .args .text .now) (start .args .here) (start .args .kind) (start .args .value .now)
-          (at-value-words2 .value-words2 .result) (at-lay-value .lay-value .ensures .0) (at-lay-value .lay-value .ensures .1) (at-append2 .append2 .ensures)
-          (at-enum-told2 .enum-told2 .given .1) (c .enum-told4 .given .1),
+      append-too-few (start .args .words .now) (start .args .text .now) (start .args .here) (start .args .kind) (start .args .value .now)
+          (at-value-words .value-words .result) (at-lay-value .lay-value .ensures .0) (at-lay-value .lay-value .ensures .1) (at-add .add .ensures)
+          (at-value-words .value-words .ensures ∙ ap (λ (n : ℕ). newValueWords (start .args .kind) (start .args .here .bytes) n)
+          (at-answered-len .answered-len .ensures)) (c .enum-told .given .1),
       tt,
     )
 
@@ -169,28 +126,16 @@ append-value-spec =
     (tie.spec
     cast-lay-value
     lay-value-requires
-    enum-known-len
+    answered-len-requires
     cast-value-words
     value-words-requires
-    append-requires
+    add-requires
     enum-known-records
-    cast-t22
-    add-t23
+    answer-requires
     enum-told
-    enum-told-2
-    value-words-requires-2
-    append-requires-2
-    enum-told-3
-    enum-told-4
     same-length
     same-length-2
     returns
     same-length-3
     same-length-4
-    returns-2
-    same-length-5
-    same-length-6
-    returns-3
-    same-length-7
-    same-length-8
-    returns-4)
+    returns-2)

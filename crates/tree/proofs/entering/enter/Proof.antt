@@ -6,9 +6,9 @@ use Rattle.tree.specs.Commands.{needsMap, enters, along, stays, further}
 use Rattle.tree.proofs.Composed.{enter-composed}
 use Rattle.tree.proofs.Chained.{stops}
 use Rattle.tree.proofs.Lays.{laid-behind}
-use Rattle.tree.proofs.StoredTrees.{stand-low, stand-end, stand-among}
+use Rattle.tree.proofs.StoredTrees.{stand-low, stand-end}
 use Rattle.tree.proofs.Bounds.{key-laid-le, enter-modest}
-use Rattle.tree.proofs.EnterWays.{map-stands, laid-standing, from-before, enter-found, enter-new, prev-inside}
+use Rattle.tree.proofs.EnterWays.{map-stands, map-ready, laid-standing, from-before, enter-found, enter-new, ready-found, gap-found, laid-inside}
 use borrow.Author.Needs.{needs}
 use Rattle.tree.proofs.entering.enter.Statement.{statement}
 use Rattle.tree.proofs.entering.enter.Tie as tie
@@ -39,12 +39,9 @@ find-key-requires c κs =
     let stands = laid-standing text (at-lay-key .lay-key .ensures .1)
     (map-stands (start .pre .0) (at-expect-map .expect-map .ensures .0) (at-expect-map .expect-map .ensures .1 (start .args .text .now))
     (at-enum-told .enum-told .given .1)) in (
-      stand-among stands,
-      (
-        stand-end stands,
-        laid-behind (start .args .text .now) (start .args .here .bytes) text (stand-end (start .pre .0)) (at-lay-key .lay-key .ensures .1)
-            (at-lay-key .lay-key .ensures .0),
-      ),
+      map-ready (start .pre .0) (at-expect-map .expect-map .ensures .0) (at-enum-told .enum-told .given .1) stands,
+      laid-behind (start .args .text .now) (start .args .here .bytes) text (stand-end (start .pre .0)) (at-lay-key .lay-key .ensures .1)
+          (at-lay-key .lay-key .ensures .0),
     )
 
 enum-known-m : tie.Need-enum-known-m
@@ -55,8 +52,8 @@ enum-known-prev c = search needs
 
 enter-new-requires : tie.Need-enter-new-requires
 enter-new-requires c κs =
-    let at-prev = c .before .before in
-    let at-find-key = at-prev .before .before in
+    let at-prev = c .before .before .before in
+    let at-find-key = at-prev .before .before .before .before in
     let at-lay-key = at-find-key .before .before .before .before .before in
     let at-enum-told = at-lay-key .before .before .before in
     let at-expect-map = at-enum-told .before .before .before .before in
@@ -64,16 +61,24 @@ enter-new-requires c κs =
     let key = meantKey (start .args .key) (start .args .raw .now) in
     let stands = laid-standing (keyText key) (at-lay-key .lay-key .ensures .1)
     (map-stands (start .pre .0) (at-expect-map .expect-map .ensures .0) (at-expect-map .expect-map .ensures .1 (start .args .text .now))
-    (at-enum-told .enum-told .given .1)) in (
-      stand-low stands,
-      prev-inside key (stand-among stands) (at-find-key .find-key .ensures) (at-prev .prev .given .1),
+    (at-enum-told .enum-told .given .1)) in
+    let ready = map-ready (start .pre .0) (at-expect-map .expect-map .ensures .0) (at-enum-told .enum-told .given .1) stands in (
       (
-        start .pre .1 .0,
-        omega (
-          arith,
-          start .pre .1 .1,
-          key-laid-le (start .args .text .now) (start .args .here .bytes) (start .args .key) (start .args .raw .now) (at-lay-key .lay-key .ensures .0),
+        ready-found (at-find-key .find-key .ensures .1) ready,
+        gap-found (at-find-key .find-key .ensures .1) ready key (at-find-key .find-key .ensures .0) (at-prev .prev .given .1),
+      ),
+      (
+        (
+          start .pre .1 .0,
+          omega (
+            arith,
+            start .pre .1 .1,
+            key-laid-le (start .args .text .now) (start .args .here .bytes) (start .args .key) (start .args .raw .now) (at-lay-key .lay-key .ensures .0),
+          ),
         ),
+        laid-inside (stand-end stands)
+            (laid-behind (start .args .text .now) (start .args .here .bytes) (keyText key) (stand-end (start .pre .0)) (at-lay-key .lay-key .ensures .1)
+            (at-lay-key .lay-key .ensures .0)),
       ),
     )
 
@@ -88,7 +93,7 @@ same-length-2 c = search needs
 
 returns : tie.Need-returns
 returns c =
-    let at-find-key = c .before .before .before in
+    let at-find-key = c .before .before .before .before .before in
     let at-lay-key = at-find-key .before .before .before .before .before in
     let at-enum-told = at-lay-key .before .before .before in
     let at-expect-map = at-enum-told .before .before .before .before in
@@ -97,7 +102,8 @@ returns c =
     let does = from-before (keyText key) (at-lay-key .lay-key .ensures .1) (enters key) (further key)
     (enter-found (start .args .words .now) (at-lay-key .lay-key .last .1 .1 .0) (start .args .here) (start .args .key) (start .args .raw .now)
     (at-expect-map .expect-map .ensures .0 .0)
-    (at-expect-map .expect-map .ensures .0 .1) (at-enum-told .enum-told .given .1) (at-find-key .find-key .ensures) (c .before .m .given .1)) in
+    (at-expect-map .expect-map .ensures .0 .1) (at-enum-told .enum-told .given .1) (at-find-key .find-key .ensures .1)
+    (at-find-key .find-key .ensures .0) (c .before .m .given .1)) in
     (does, enter-modest (start .pre .0) (start .args .key) (start .args .raw .now) does)
 
 same-length-3 : tie.Need-same-length-3
@@ -109,8 +115,8 @@ same-length-4 c = search needs
 returns-2 : tie.Need-returns-2
 returns-2 c =
     let at-enter-new = c .before .before in
-    let at-prev = at-enter-new .before .before .before in
-    let at-find-key = at-prev .before .before in
+    let at-prev = at-enter-new .before .before .before .before in
+    let at-find-key = at-prev .before .before .before .before in
     let at-lay-key = at-find-key .before .before .before .before .before in
     let at-enum-told = at-lay-key .before .before .before in
     let at-expect-map = at-enum-told .before .before .before .before in
@@ -119,7 +125,8 @@ returns-2 c =
     let does = from-before (keyText key) (at-lay-key .lay-key .ensures .1) (enters key) (further key)
     (enter-new (start .args .words .now) (at-lay-key .lay-key .last .1 .1 .0) (start .args .here) (start .args .key) (start .args .raw .now)
     (at-expect-map .expect-map .ensures .0 .0)
-    (at-expect-map .expect-map .ensures .0 .1) (at-enum-told .enum-told .given .1) (at-find-key .find-key .ensures) (at-prev .prev .given .1)
+    (at-expect-map .expect-map .ensures .0 .1) (at-enum-told .enum-told .given .1) (at-find-key .find-key .ensures .1)
+    (at-find-key .find-key .ensures .0) (at-prev .prev .given .1)
     (laid-behind (start .args .text .now) (start .args .here .bytes) (keyText key) (stand-end (start .pre .0)) (at-lay-key .lay-key .ensures .1)
     (at-lay-key .lay-key .ensures .0))
     (at-enter-new .enter-new .ensures)) in

@@ -1,0 +1,3 @@
+pub mod Heads
+pub mod KeyTags
+pub mod Aligned
