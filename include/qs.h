@@ -16,6 +16,8 @@
  *   16 the root is a sequence or uninitialized, 17 no such field, 18 the field is of the wrong kind
  *   22 fewer than two words lent for each element of a list
  *   and of a text or at each element's turn: 20 its index is missing, 18 it is of the wrong kind, 19 several values, 21 not UTF-8
+ * and of a sheet once the reading is accepted, with place 0:
+ *   23 a page of fewer than QS_SHEET_LINE bytes for each record used
  *
  * The words of a record:
  *   0 kind: 0 uninitialized, 1 map, 2 sequence, 3 string, 4 null, 5 no value
@@ -39,12 +41,14 @@ extern "C" {
 #define QS_RECORD_WORDS 8
 #define QS_MAX_DEPTH 64
 #define QS_MAX_INPUT 65535
+/* The bytes of a sheet's line: 72 characters and a newline. */
+#define QS_SHEET_LINE 73
 
 /* What a reading answers. */
 struct qs_reading {
-    uint32_t number;  /* 0 where it was accepted, else the refusal's number, 1 to 15 */
-    uint32_t place;   /* where a refusal was met: the bytes taken, the end counted as one; 0 where it was accepted */
-    uint32_t records; /* records and bytes of text that are used; both 0 where it was refused */
+    uint32_t number;  /* 0 where it was accepted, else the refusal's number, 1 to 15; qs_sheet: or 23 */
+    uint32_t place;   /* where a refusal was met: the bytes taken, the end counted as one; 0 where it was accepted, and under 23 */
+    uint32_t records; /* records and bytes of text that are used; both 0 under 1 to 15 */
     uint32_t bytes;
 };
 
@@ -92,6 +96,16 @@ struct qs_field_read qs_text(uint32_t depth, uint32_t form, uint32_t duplicates,
 struct qs_field_read qs_list(uint32_t depth, uint32_t form, uint32_t duplicates, const uint8_t *input, size_t input_len,
                              const uint8_t *name, size_t name_len, uint32_t *records, size_t records_len, uint8_t *text,
                              size_t text_len, uint32_t *list, size_t list_len);
+
+/*
+ * Reads a query string as qs_parse does, and then writes the sheet of its tree into page: a line of QS_SHEET_LINE bytes for each
+ * record used, parent before children, the root first. Columns 1 to 3 hold the level and 5 to 9 a string's length, both
+ * right-aligned, 11 to 14 the kind (map, sequ, stri, null, nova or unin), 16 to 40 the key and 42 to 72 the text; what doesn't fit
+ * ends in '>', and a byte outside 33 to 126 shows as '.'. The rest of page stays as it was, and all of it does under every number
+ * but 0.
+ */
+struct qs_reading qs_sheet(uint32_t depth, uint32_t form, const uint8_t *input, size_t input_len, uint32_t *records,
+                           size_t records_len, uint8_t *text, size_t text_len, uint8_t *page, size_t page_len);
 
 #ifdef __cplusplus
 }

@@ -52,6 +52,18 @@ mod c {
             list: *mut u32,
             list_len: usize,
         ) -> FieldRead;
+        pub fn qs_sheet(
+            depth: u32,
+            form: u32,
+            input: *const u8,
+            input_len: usize,
+            records: *mut u32,
+            records_len: usize,
+            text: *mut u8,
+            text_len: usize,
+            page: *mut u8,
+            page_len: usize,
+        ) -> Reading;
     }
 }
 
@@ -118,14 +130,15 @@ impl Default for Config {
     }
 }
 
-/// What a reading answers: `number` is 0 where it was accepted, else the number of its [`refusal`].
+/// What a reading answers: `number` is 0 where it was accepted, else the number of its [`refusal`], 1 to 15. Of a [`sheet`] it may also
+/// be 23, and then the reading itself was accepted.
 #[repr(C)]
 #[derive(Clone, Copy, Debug, PartialEq, Eq)]
 pub struct Reading {
     pub number: u32,
-    /// Where a refusal was met: the bytes taken so far, the end counted as one; 0 where the reading was accepted.
+    /// Where a refusal was met: the bytes taken so far, the end counted as one; 0 where the reading was accepted, and under 23.
     pub place: u32,
-    /// The records and the bytes of text that are used; both 0 where the reading was refused.
+    /// The records and the bytes of text that are used; both 0 where the reading was refused, by 1 to 15.
     pub records: u32,
     pub bytes: u32,
 }
@@ -285,6 +298,61 @@ pub fn list(
             text.len(),
             list.as_mut_ptr(),
             list.len(),
+        )
+    }
+}
+
+/// The bytes of a sheet's line: 72 characters and a newline.
+pub const SHEET_LINE: usize = 73;
+
+/// The bytes of a page that suffice for the sheet of every input of so many bytes: a line for each record that [`room`] has.
+///
+/// ```
+/// assert_eq!(qs::sheet_room(3), 4 * qs::SHEET_LINE);
+/// ```
+pub const fn sheet_room(length: usize) -> usize {
+    SHEET_LINE * (length + 1)
+}
+
+/// Reads a query string as [`parse`] does, and then writes the sheet of its tree into `page`: a line of [`SHEET_LINE`] bytes for each
+/// record used, the root first and every parent before its children.
+///
+/// A line has the level, a string's length, the first letters of the kind, the key and the text. A byte outside 33 to 126 shows as a
+/// full stop, and a key or text that doesn't fit ends in `>`. What `page` has past the last line is untouched, and all of it is where
+/// the number isn't 0. A page of less than a line for each record is refused (23) once the reading is accepted; records and text are
+/// left as the reading left them.
+///
+/// ```
+/// let ((mut records, mut text), mut page) = (qs::buffers(3), [b'x'; 2 * qs::SHEET_LINE + 1]);
+/// let reading = qs::sheet(qs::Config::default(), b"a=1", &mut records, &mut text, &mut page);
+/// assert_eq!((reading.number, reading.records, reading.bytes), (0, 2, 2));
+/// let root = format!("{:72}\n", "  0       map");
+/// let a = format!("{:72}\n", "  1     1 stri a                         1");
+/// assert_eq!(page[..], *(root + &a + "x").as_bytes());
+/// let short = &mut page[..2 * qs::SHEET_LINE - 1];
+/// let reading = qs::sheet(qs::Config::default(), b"a=1", &mut records, &mut text, short);
+/// assert_eq!((reading.number, reading.records), (qs::refusal::SHORT_PAGE, 2));
+/// ```
+pub fn sheet(
+    config: Config,
+    input: &[u8],
+    records: &mut [u32],
+    text: &mut [u8],
+    page: &mut [u8],
+) -> Reading {
+    // SAFETY: the slices live through the call, and `records`, `text` and `page` are lent to it alone.
+    unsafe {
+        c::qs_sheet(
+            config.depth,
+            config.form.into(),
+            input.as_ptr(),
+            input.len(),
+            records.as_mut_ptr(),
+            records.len(),
+            text.as_mut_ptr(),
+            text.len(),
+            page.as_mut_ptr(),
+            page.len(),
         )
     }
 }

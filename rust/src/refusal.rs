@@ -1,6 +1,7 @@
-//! The numbers that a call answers, each with its name and its wording: document 01's refusals in the order of their numbers.
+//! The numbers that a call answers, each with its name and its wording: document 01's refusals, and then document 02's, in the order
+//! of their numbers.
 //!
-//! They are those of the proved crate `refusals`. 23 to 28 are kept for calls to come; a new one is a line of the table.
+//! They are those of the proved crate `refusals`. 24 to 28 are kept for calls to come; a new one is a line of the table.
 
 use std::ops::RangeInclusive;
 
@@ -54,6 +55,7 @@ numbers! {
     MISSING_INDEX = 20: "an index is missing"
     NOT_UTF8 = 21: "the text is not UTF-8"
     SHORT_SLICE = 22: "too few words were lent for the list"
+    SHORT_PAGE = 23: "too short a page was lent for the sheet"
 }
 
 /// The refusals before the first byte: they leave every buffer as it was.
@@ -67,3 +69,6 @@ pub const OF_A_READING: RangeInclusive<u32> = TOO_DEEP..=TOO_LITTLE_TEXT;
 
 /// The refusals of a field read, once the reading is accepted.
 pub const OF_A_FIELD: RangeInclusive<u32> = WRONG_ROOT..=SHORT_SLICE;
+
+/// The refusal of a sheet, once the reading is accepted: it leaves the page as it was.
+pub const OF_A_SHEET: RangeInclusive<u32> = SHORT_PAGE..=SHORT_PAGE;

@@ -103,18 +103,61 @@ fn an_accepted_input_is_accounted_for() {
 }
 
 #[test]
+fn a_sheet_is_printed_as_it_is() {
+    let expected = [
+        "  0       map",
+        "  1     1 stri 7                         z",
+        "  1     1 stri bad                       .",
+        "  1       sequ h",
+        "  2     2 stri                           10",
+        "  2     1 stri                           9",
+        "  1       nova n",
+        "  1    11 stri title                     Fog.at.dawn",
+        "  1       map  w",
+        "  2     1 stri 0                         a",
+        "  2     1 stri 1                         b",
+        "  1       map  x",
+        "  2     1 stri y                         1",
+    ];
+    let lines = |expected: &[&str]| -> String {
+        let lines = expected.iter().map(|line| format!("{line:72}\n"));
+        lines.collect()
+    };
+    let printed = |input| run(&["--sheet", input]);
+    let accepted = |expected| (Some(0), lines(expected), String::new());
+    assert_eq!(printed(INPUT), accepted(&expected));
+    assert_eq!(printed(""), accepted(&["  0       nova"]));
+    let longest = "&".repeat(qs::Config::MAX_LEN);
+    assert_eq!(printed(&longest), accepted(&["  0       unin"]));
+    // At the usual depth, and with the flag off.
+    let (_, sheet, _) = printed("a[b][c][d][e][f][g][h]");
+    assert_eq!(sheet.lines().count(), 8);
+    assert!(sheet.ends_with(&lines(&["  7       nova [g][h]"])));
+    let flat = ["  0       map", "  1       nova a[b]"];
+    assert_eq!(printed("a%5Bb%5D"), accepted(&flat));
+}
+
+#[test]
 fn a_refused_input_is_marked() {
     let told =
         "layout: refused: `[]` where a map is (6) at place 10\n  a[b]=1&a[]=2\n           ^\n";
-    for arguments in [&["a[b]=1&a[]=2"][..], &["a[b]=1&a[]=2", "a", "b"]] {
+    for arguments in [
+        &["a[b]=1&a[]=2"][..],
+        &["a[b]=1&a[]=2", "a", "b"],
+        &["--sheet", "a[b]=1&a[]=2"],
+    ] {
         assert_eq!(run(arguments), (Some(1), String::new(), told.into()));
     }
     let long = "a".repeat(qs::Config::MAX_LEN + 1);
     let told = "layout: refused: the ticket is longer than 65,535 bytes (2)\n";
-    assert_eq!(run(&[&long]), (Some(1), String::new(), told.into()));
-    let output = layout(&[b"\x1b\xFF["]);
-    assert_eq!(output.status.code(), Some(1));
-    assert!(output.stderr.ends_with(b"\n  \\x1b\\xff[\n           ^\n"));
+    for arguments in [&[&long[..]][..], &["--sheet", &long]] {
+        assert_eq!(run(arguments), (Some(1), String::new(), told.into()));
+    }
+    for arguments in [&[&b"\x1b\xFF["[..]][..], &[b"--sheet", b"\x1b\xFF["]] {
+        let output = layout(arguments);
+        assert_eq!(output.status.code(), Some(1));
+        assert!(output.stderr.ends_with(b"\n  \\x1b\\xff[\n           ^\n"));
+    }
 }
 
 #[test]
@@ -161,16 +204,28 @@ fn a_segment_that_is_not_utf8_is_refused_with_its_place() {
 
 #[test]
 fn bad_usage_is_told_apart() {
-    for arguments in [&[][..], &["--segment"], &["--segment", "a", "b"]] {
+    for arguments in [
+        &[][..],
+        &["--segment"],
+        &["--segment", "a", "b"],
+        &["--sheet"],
+        &["--sheet", "a", "b"],
+    ] {
         let (status, written, told) = run(arguments);
         assert_eq!((status, written.as_str()), (Some(2), ""));
         assert!(told.starts_with("usage: layout TICKET [NAME...]\n"));
+        assert!(told.contains("\n       layout --sheet TICKET\n"));
     }
 }
 
 #[test]
 fn what_cannot_be_written_is_no_success() {
-    for arguments in [&["a"][..], &["a", "a"], &["--segment", "a"]] {
+    for arguments in [
+        &["a"][..],
+        &["a", "a"],
+        &["--segment", "a"],
+        &["--sheet", "a"],
+    ] {
         let full = File::options()
             .write(true)
             .open("/dev/full")

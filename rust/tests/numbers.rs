@@ -1,5 +1,6 @@
-//! The numbers that stand in more than one place are the same in each: a record's row and the limits, which the model has for itself,
-//! the refusals and their wording, and where the fields of an answer lie for C. Those of include/qs.h are compared in tests/c.rs.
+//! The numbers that stand in more than one place are the same in each: a record's row, the limits and a sheet's line, which the model
+//! has for itself, the refusals and their wording, and where the fields of an answer lie for C. Those of include/qs.h are compared in
+//! tests/c.rs.
 
 use qs::{refusal, row, Config, FieldRead, Reading};
 use std::collections::BTreeSet;
@@ -33,7 +34,13 @@ fn the_model_has_the_same_limits() {
     assert_eq!(Config::MAX_LEN, model::MAX_LEN);
 }
 
-/// The numbers go up from 0 without a gap, each with a wording of its own; the refusals are a reading's and then a field's.
+#[test]
+fn the_model_has_the_same_line() {
+    assert_eq!(qs::SHEET_LINE, model::SHEET_LINE);
+}
+
+/// The numbers go up from 0 without a gap, each with a wording of its own; the refusals are a reading's, a field's and then a
+/// sheet's.
 #[test]
 fn every_refusal_has_its_wording() {
     let count = refusal::ALL.len() as u32;
@@ -41,7 +48,9 @@ fn every_refusal_has_its_wording() {
     // the last is that of a number which no call answers
     let meanings: BTreeSet<&str> = (0..=count).map(refusal::meaning).collect();
     assert_eq!(meanings.len() as u32, count + 1);
-    let refusals = refusal::OF_A_READING.chain(refusal::OF_A_FIELD);
+    let refusals = refusal::OF_A_READING
+        .chain(refusal::OF_A_FIELD)
+        .chain(refusal::OF_A_SHEET);
     assert!(refusals.eq(1..count));
 }
 

@@ -55,3 +55,10 @@ smallF = 102
 
 abbrev pub newline : ℕ
 newline = 10
+
+-- `.` stands on a sheet for a byte that can't be shown, `>` for what is cut.
+abbrev pub fullStop : ℕ
+fullStop = 46
+
+abbrev pub greater : ℕ
+greater = 62

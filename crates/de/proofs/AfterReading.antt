@@ -1,12 +1,11 @@
 -- A field read after a reading: from what the code finds in the records to what is read from the tree.
 use Prim.Native.Nat.{ℕ, _<_, _≤_}
-use mathlib.Core.Path.{_≡_, refl, ap, sym, _∙_, subst}
+use mathlib.Core.Path.{_≡_, refl, ap, subst}
 use mathlib.Core.Logic.{_≢_}
 use mathlib.Core.List.{List}
 use native.Mathlib.Omega.{arith}
 use lib.ListN.{length}
 use Rattle.row.specs.Words.{recordCount}
-use Rattle.refusals.proofs.Codes.{code-some}
 use Rattle.config.specs.declared.Config.{Config}
 use Rattle.reading.specs.declared.Reading.{Reading}
 use Rattle.reading.specs.Values.{Node}
@@ -31,7 +30,7 @@ use Rattle.fields.specs.OnRecords.{Readable, fieldAt, fieldTextAt, fieldListAt,
 use Rattle.de.proofs.Stored.{left, filled, stores, readable, some-record}
 use Rattle.fields.proofs.Agree.{At, field-agrees, field-text, field-list}
 use Rattle.fields.proofs.Few.{FewElements, few}
-use Rattle.de.proofs.Went.{Went, accepting, refusing, went}
+use Rattle.parse.proofs.Went.{after-it, by-way, by-refusal}
 
 -- The records of an accepted reading, and what is found at their root.
 module _ (words text : List ℕ) {v : Node} {u : Used} (s : Sound (lentBy words text) v u) where
@@ -67,31 +66,21 @@ module _ (words text : List ℕ) {v : Node} {u : Used} (s : Sound (lentBy words 
 -- The ends of the public calls, by the number that the reading answers: parse's answer as the four numbers, and what it leaves.
 module _ (config : Config) (input words text W X : List ℕ) (p : Parsed) {reading : Reading} (told : reading ≡ answerOf p)
     (ensured : parsedOutcome p W X ≡ outcomeOf (read config input words text)) where
-  abbrev after-it : Outcome
-  after-it = record { answer = reading; words = W; text = X }
-
-  e : after-it ≡ outcomeOf (read config input words text)
-  e = rw told ensured
-
   -- It accepts.
   module _ (z : reading .number ≡ 0) where
-    by-way : (P : Read → Outcome → Type 0)
+    by : (P : Read → Outcome → Type 0)
         → ((v : Node) (u : Used) (s : Sound (lentBy words text) v u)
         → P (passed v (outcome (length words) (length text) (accepted v u))) (outcome (length words) (length text) (accepted v u)))
-        → P (read config input words text) after-it
-    by-way P f = go (went config input words text) e
-      where
-        go : {r : Read} → Went words text r → after-it ≡ outcomeOf r → P r after-it
-        go {r} (accepting {n = v} {u = u} s) q = subst (λ (y : Outcome). P r y) (sym q) (f v u s)
-        go (refusing x h) q = absurd (code-some x (sym h ∙ sym (ap (λ (y : Outcome). y .answer .number) q) ∙ z))
+        → P (read config input words text) (after-it config input words text W X p told ensured)
+    by P f = by-way config input words text W X p told ensured z P f
 
     pub readable-after : Readable W X × (0 < recordCount W)
-    readable-after = by-way (λ r y. Readable (y .words) (y .text) × (0 < recordCount (y .words))) (λ v u s. can-read words text s)
+    readable-after = by (λ r y. Readable (y .words) (y .text) × (0 < recordCount (y .words))) (λ v u s. can-read words text s)
 
     pub few-listed : (d : DuplicateKeyBehavior) (name : List ℕ) (size : ℕ) {l : List ℕ} {r : ListRead}
         → Writes size l (fieldListAt d W X size (fieldAt W X name)) r → elementCount r ≤ reading .records
     few-listed d name size {l} {r} =
-        by-way (λ q y. Writes size l (fieldListAt d (y .words) (y .text) size (fieldAt (y .words) (y .text) name)) r → elementCount r ≤ y .answer .records)
+        by (λ q y. Writes size l (fieldListAt d (y .words) (y .text) size (fieldAt (y .words) (y .text) name)) r → elementCount r ≤ y .answer .records)
         (λ v u s h. go (few-found words text s d name size) (subst (λ (y : ListResult). Writes size l y r) (list-found words text s d name size) h))
       where
         go : {n : ℕ} {whole : ListResult} {q : ListRead} → FewElements n whole → Writes size l whole q → elementCount q ≤ n
@@ -104,7 +93,7 @@ module _ (config : Config) (input words text W X : List ℕ) (p : Parsed) {readi
     unfolding textRead
     text-accepted d name f g =
         rw (f, g)
-        (by-way
+        (by
         (λ r y. leaving y (textAnswer (y .answer) (fieldTextAt d (y .words) (y .text) (fieldAt (y .words) (y .text) name)))
         ≡ after r (textAfter d name) unread)
         (λ v u s.
@@ -117,7 +106,7 @@ module _ (config : Config) (input words text W X : List ℕ) (p : Parsed) {readi
     unfolding listRead
     list-accepted d name list l l′ {r = r} f g k =
         rw (f, k)
-        (by-way
+        (by
         (λ q y. Writes (length list) l (fieldListAt d (y .words) (y .text) (length list) (fieldAt (y .words) (y .text) name)) r
         → _≡_ {A = ListOutcome} (record { read = leaving y (listReadAnswer (y .answer) r); list = leftBy r l })
         (after q (listAfter d name (length list)) (unlisted list)))
@@ -132,19 +121,16 @@ module _ (config : Config) (input words text W X : List ℕ) (p : Parsed) {readi
 
   -- It refuses.
   module _ (z : reading .number ≢ 0) where
-    by-refusal : (P : Read → Outcome → Type 0) → ((o : Outcome) → P (met o) o) → P (read config input words text) after-it
-    by-refusal P f = go (went config input words text) e
-      where
-        go : {r : Read} → Went words text r → after-it ≡ outcomeOf r → P r after-it
-        go (accepting s) q = absurd (z (ap (λ (y : Outcome). y .answer .number) q))
-        go {r} (refusing {o = o} x h) q = subst (λ (y : Outcome). P r y) (sym q) (f o)
+    by-none : (P : Read → Outcome → Type 0) → ((o : Outcome) → P (met o) o)
+        → P (read config input words text) (after-it config input words text W X p told ensured)
+    by-none P f = by-refusal config input words text W X p told ensured z P f
 
     pub text-refused : (d : DuplicateKeyBehavior) (name : List ℕ) {a : FieldRead} → a ≡ record { reading = reading; offset = 0; len = 0 }
         → _≡_ {A = TextOutcome} (record { answer = a; words = W; text = X }) (textRead config d input name words text)
     unfolding textRead
     text-refused d name f =
         rw f
-        (by-refusal
+        (by-none
         (λ r y. unread y ≡ after r (textAfter d name) unread) (λ o. refl))
 
     pub list-refused : (d : DuplicateKeyBehavior) (name list l : List ℕ) {a : FieldRead} → a ≡ record { reading = reading; offset = 0; len = 0 }
@@ -153,6 +139,6 @@ module _ (config : Config) (input words text W X : List ℕ) (p : Parsed) {readi
     unfolding listRead
     list-refused d name list l f g =
         rw (f, g)
-        (by-refusal
+        (by-none
         (λ r y. unlisted list y
         ≡ after r (listAfter d name (length list)) (unlisted list)) (λ o. refl))

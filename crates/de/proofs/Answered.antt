@@ -29,7 +29,7 @@ use Rattle.fields.specs.Lists.{ListResult, listed, prepend, isNext, elementText
 use Rattle.de.specs.Reads.{leaving, unread, textAnswer, textAfter, textRead, listAnswer, listOutcome, listAfter, unlisted, listRead}
 use Rattle.de.specs.Answered.{ValidText, TextAnswered, ValidElements, ListAnswered}
 use Rattle.de.proofs.Stored.{lies-le}
-use Rattle.de.proofs.Went.{Went, accepting, refusing, went}
+use Rattle.parse.proofs.Went.{Went, accepting, refusing, went}
 
 -- Of a text that is used, with anything behind it.
 module _ (t zs : List ℕ) where

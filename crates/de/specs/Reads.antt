@@ -11,7 +11,7 @@ use Rattle.refusals.specs.Codes.{code}
 use Rattle.config.specs.declared.Config.{Config}
 use Rattle.reading.specs.declared.Reading.{Reading}
 use Rattle.reading.specs.Values.{Node}
-use Rattle.reading.specs.Reading.{Outcome, read, after}
+use Rattle.reading.specs.Reading.{Outcome, refusedAfter, read, after}
 use Rattle.fields.specs.declared.DuplicateKeyBehavior.{DuplicateKeyBehavior}
 use Rattle.de.specs.declared.FieldRead.{FieldRead}
 use Rattle.fields.specs.declared.text.TextRead.{TextRead}
@@ -35,14 +35,9 @@ leaving o answer = record { answer = answer; words = o .words; text = o .text }
 abbrev pub unread : Outcome → TextOutcome
 unread o = leaving o (record { reading = o .answer; offset = 0; len = 0 })
 
--- Where the field is refused after an accepted reading: "place 0", the counts as they were.
+-- Where the field is refused after an accepted reading.
 abbrev pub refusedAnswer : Reading → Refusal → FieldRead
-refusedAnswer reading x =
-    record {
-      reading = record { number = code x; place = 0; records = reading .records; bytes = reading .bytes };
-      offset = 0;
-      len = 0;
-    }
+refusedAnswer reading x = record { reading = refusedAfter reading x; offset = 0; len = 0 }
 
 -- The result of a text read.
 abbrev pub textAnswer : Reading → TextRead → FieldRead

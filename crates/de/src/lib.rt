@@ -15,7 +15,6 @@ use fields::text;
 use fields::text::TextRead;
 use reading::Reading;
 use refusals::Refusal;
-use refusals::code;
 
 // Document 01's result of a field read: the reading's, with the field's own number where it has one, and the text's
 // offset and length (of a list, 0 and the number of elements). C gets it as it stands.
@@ -41,12 +40,7 @@ fn unread(reading: Reading) -> FieldRead
 fn refused(reading: Reading, refusal: Refusal) -> FieldRead
     ensures { λ r. ⌜ r ≡ refusedAnswer reading refusal ⌝ }
 {
-    unread(Reading {
-        number: code(refusal),
-        place: 0,
-        records: reading.records,
-        bytes: reading.bytes,
-    })
+    unread(reading.refused_by(refusal))
 }
 
 // The result of a text read after an accepted reading.

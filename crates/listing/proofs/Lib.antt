@@ -1,6 +1,4 @@
-pub mod ByKind
-pub mod Items
-pub mod Walks
+pub mod Runs
 pub mod Writes
 pub mod Examples
 pub mod Complete

@@ -1,7 +1,7 @@
 -- The length of a listing, line by line.
 use mathlib.Core.Bool.{Bool, true, false, cond}
 use mathlib.Core.Option.{Option, none, some}
-use mathlib.Core.List.{List, flatten}
+use mathlib.Core.List.{List, flatMap}
 use Prim.Native.Nat.{ℕ, zero, suc, _+_, _*_, _^_, _≤_, _<_}
 use native.Mathlib.Omega.{arith}
 use borrow.Author.Tests.{eqb-true}
@@ -21,10 +21,11 @@ use Rattle.reading.specs.Buffers.{rowIn, byKind, valueWithin, forestWithin, val
 use Rattle.reading.specs.Counts.{values, entryValues, elementValues, keyLen, textBytes, entryBytes, elementBytes}
 use Rattle.reading.proofs.Outcomes.{counts}
 use Rattle.output.proofs.Lengths.{decimal-length, hex-length}
-use Rattle.listing.specs.Lines.{keyItem, kindName, textItem, ownLines, treeLines, entryLines, elementLines}
+use Rattle.listed.specs.Listed.{kindName, bytesOf, own, listed, listedEntries, listedElements}
+use Rattle.listing.specs.Lines.{keyItem, textItem, ownLines}
 use Rattle.listing.specs.Listing.{answerLines, listing}
 use Rattle.listing.specs.Room.{answerRoom, valueRoom, Room}
-use Rattle.listing.proofs.Writes.{flatten-append}
+use Rattle.listing.proofs.Runs.{flatMap-append}
 
 -- Int keys that are u32s.
 abbrev NarrowKey : Key → Type 0
@@ -53,13 +54,9 @@ abbrev shownBytes : Option Key → ℕ
 shownBytes none = 0
 shownBytes (some key) = keyLen key
 
-abbrev ownBytes : Tree → ℕ
-ownBytes (map es) = 0
-ownBytes (sequence xs) = 0
-ownBytes (string x) = length x
-ownBytes null = 0
-ownBytes noValue = 0
-ownBytes uninitialized = 0
+abbrev ownBytes : Option (List ℕ) → ℕ
+ownBytes none = 0
+ownBytes (some x) = length x
 
 key-length : (key : Option Key) → NarrowShown key → length (keyItem key) ≤ 11 + 2 * shownBytes key
 key-length none h = omega arith
@@ -74,24 +71,20 @@ kind-length null = omega arith
 kind-length noValue = omega arith
 kind-length uninitialized = omega arith
 
-text-length : (v : Tree) → length (textItem v) ≤ 1 + 2 * ownBytes v
-text-length (map es) = omega arith
-text-length (sequence xs) = omega arith
-text-length (string x) = omega (arith, hex-length x)
-text-length null = omega arith
-text-length noValue = omega arith
-text-length uninitialized = omega arith
+text-length : (bytes : Option (List ℕ)) → length (textItem bytes) ≤ 1 + 2 * ownBytes bytes
+text-length none = omega arith
+text-length (some x) = omega (arith, hex-length x)
 
 own-length : (level : ℕ) (key : Option Key) (v : Tree) → level < 2 ^ 32 → NarrowShown key
-    → length (ownLines level key v) ≤ valueRoom + 2 * (shownBytes key + ownBytes v)
+    → length (ownLines (own level key v)) ≤ valueRoom + 2 * (shownBytes key + ownBytes (bytesOf v))
 unfolding ownLines
-own-length level key v h k = simp length-append (omega (arith, decimal-length level h, key-length key k, kind-length v, text-length v))
+own-length level key v h k = simp length-append (omega (arith, decimal-length level h, key-length key k, kind-length v, text-length (bytesOf v)))
 
 mutual
-  unfolding treeLines flatten
+  unfolding listed flatMap
 
   value-length : (v : Value) (level : ℕ) (key : Option Key) → NarrowValue v → NarrowShown key → level + values (plain v) ≤ 2 ^ 32
-      → length (flatten (treeLines (plain v) level key)) ≤ valueRoom * values (plain v) + 2 * (shownBytes key + textBytes (plain v))
+      → length (flatMap ownLines (listed (plain v) level key)) ≤ valueRoom * values (plain v) + 2 * (shownBytes key + textBytes (plain v))
   value-length (Value.map children) level key h k q =
       simp length-append (omega (arith, own-length level key (map (entries children)) (omega arith) k, entries-length children (level + 1) h (omega arith)))
   value-length (Value.sequence children) level key h k q =
@@ -103,17 +96,17 @@ mutual
   value-length Value.uninitialized level key h k q = simp length-append (omega (arith, own-length level key uninitialized (omega arith) k))
 
   entries-length : (f : Forest) (level : ℕ) → NarrowForest f → level + entryValues (entries f) ≤ 2 ^ 32
-      → length (flatten (entryLines (entries f) level)) ≤ valueRoom * entryValues (entries f) + 2 * entryBytes (entries f)
+      → length (flatMap ownLines (listedEntries (entries f) level)) ≤ valueRoom * entryValues (entries f) + 2 * entryBytes (entries f)
   entries-length Forest.none level h q = omega arith
   entries-length (child number row v later) level h q =
-      rw (flatten-append (treeLines (plain v) level (some (rowKey row))) (entryLines (entries later) level), length-append)
+      rw (flatMap-append ownLines (listed (plain v) level (some (rowKey row))) (listedEntries (entries later) level), length-append)
       (omega (arith, value-length v level (some (rowKey row)) (h .1) (h .0) (omega arith), entries-length later level (h .2) (omega arith)))
 
   elements-length : (f : Forest) (level : ℕ) → NarrowForest f → level + elementValues (elements f) ≤ 2 ^ 32
-      → length (flatten (elementLines (elements f) level)) ≤ valueRoom * elementValues (elements f) + 2 * elementBytes (elements f)
+      → length (flatMap ownLines (listedElements (elements f) level)) ≤ valueRoom * elementValues (elements f) + 2 * elementBytes (elements f)
   elements-length Forest.none level h q = omega arith
   elements-length (child number row v later) level h q =
-      rw (flatten-append (treeLines (plain v) level none) (elementLines (elements later) level), length-append)
+      rw (flatMap-append ownLines (listed (plain v) level none) (listedElements (elements later) level), length-append)
       (omega (arith, value-length v level none (h .1) tt (omega arith), elements-length later level (h .2) (omega arith)))
 
 -- The values in words that are u32s have Int keys that are.

@@ -3,5 +3,5 @@ pub mod Listing
 pub mod Bounded
 pub mod Complete
 pub mod Room
-pub mod Walking
+pub mod Styles
 pub mod Examples

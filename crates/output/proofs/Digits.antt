@@ -6,7 +6,7 @@ use Prim.Native.Nat.{ℕ, zero, suc, _+_, _-_, _*_, _/_, _%_, _≤_, _<_}
 use native.Mathlib.Omega.{arith}
 use borrow.Author.Tests.{lt-ltb, le-ltb, le-leb}
 use lib.Dec.{ltb}
-use lib.ListN.{length, drop, getD, drop-of-length-le}
+use lib.ListN.{length, drop, getD, length-append, drop-of-length-le}
 use Rattle.laws.proofs.Cases.{below}
 use Rattle.laws.proofs.Lists.{drop-1}
 use Rattle.ascii.specs.Digits.{isDigit, allDigits, valueFrom}
@@ -43,6 +43,24 @@ unfolding decimal decimalIn
 decimal-more n h =
     decimal-enough n (suc n) n (omega arith) (omega arith)
     ∙ rw (le-ltb n 10 h) (ap (λ front. front ++ ((48 + n % 10) ∷ [])) (decimal-enough n (n / 10) (n / 10) (omega arith) (omega arith)))
+
+-- The digits counted so far and those of what is left are all of them and one more.
+pub record Counting (n len rest : ℕ) : Type 0 where
+  pub digits : len + length (decimal rest) ≡ length (decimal n) + 1
+  pub few : len + rest ≤ n + 1
+
+pub counting-start : (n : ℕ) → Counting n 1 n
+counting-start n = record { digits = omega arith; few = omega arith }
+
+pub counting-more : {n len rest : ℕ} → Counting n len rest → 10 ≤ rest → Counting n (len + 1) (rest / 10)
+counting-more {n} {len} {rest} c h =
+    let e : length (decimal rest) ≡ length (decimal (rest / 10)) + 1 =
+    ap length (decimal-more rest h) ∙ length-append (decimal (rest / 10)) ((48 + rest % 10) ∷ []) in
+    record { digits = omega (arith, c .digits, e); few = omega (arith, c .few) }
+
+pub counting-done : {n len rest : ℕ} → Counting n len rest → rest < 10 → len ≡ length (decimal n)
+counting-done {n} {len} {rest} c h =
+    let e : length (decimal rest) ≡ 1 = ap length (decimal-digit rest h) in omega (arith, c .digits, e)
 
 pub puts-digit : {p p₁ : Page} (n : ℕ) → n < 10 → Puts ((48 + n % 10) ∷ []) p p₁ → Puts (decimal n) p p₁
 puts-digit n h e = puts-same e (sym (decimal-digit n h))

@@ -9,7 +9,7 @@ use Rattle.laws.proofs.Cases.{below}
 use Rattle.output.specs.Numbers.{decimalIn, decimal, hex}
 
 -- A power of ten, which has k + 2 digits.
-abbrev tens : ℕ → ℕ
+abbrev pub tens : ℕ → ℕ
 tens zero = 10
 tens (suc k) = 10 * tens k
 
@@ -21,10 +21,14 @@ decimal-in-length (suc k) (suc more) n h =
     below n 10 (λ g. rw (lt-ltb n 10 g) (omega arith))
     (λ g. rw (le-ltb n 10 g, length-append) (omega (arith, decimal-in-length k more (n / 10) (omega arith))))
 
+-- A number below a power of ten has no more digits than the power has zeros.
+pub digits-within : (k n : ℕ) → n < tens k → length (decimal n) ≤ k + 1
+unfolding decimal
+digits-within k n h = decimal-in-length k n n h
+
 -- A u32 has at most ten digits.
 pub decimal-length : (n : ℕ) → n < 2 ^ 32 → length (decimal n) ≤ 10
-unfolding decimal
-decimal-length n h = decimal-in-length 9 n n (omega arith)
+decimal-length n h = digits-within 9 n (omega arith)
 
 pub hex-length : (s : List ℕ) → length (hex s) ≡ 2 * length s
 unfolding hex

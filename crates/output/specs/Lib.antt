@@ -1,3 +1,4 @@
 pub mod Output
 pub mod Numbers
 pub mod Decimals
+pub mod Lines

@@ -2,6 +2,7 @@
 ghost use mathlib.Core.Path.{_≡_};
 ghost use Prim.Native.Nat.{_<_};
 ghost use mathlib.Core.List.{_++_};
+ghost use lib.ListN.{length};
 ghost use Rattle.ascii.specs.Texts.{ascii};
 ghost use Rattle.output.specs.Numbers.{decimal, hexDigit, hex};
 ghost use Rattle.output.specs.Output.{page, Puts};
@@ -39,6 +40,19 @@ pub fn write_decimal(n: usize, out: &mut [u8], at: usize) -> usize
     }
     let next = write_decimal(n / 10, out, at);
     crate::write_byte(last, out, next)
+}
+
+// How many digits a number has in decimal.
+pub fn decimal_len(n: usize) -> usize
+    ensures { λ r. ⌜ r ≡ length (decimal n) ⌝ }
+{
+    let mut len = 1;
+    let mut rest = n;
+    while 10 <= rest {
+        rest /= 10;
+        len += 1;
+    }
+    len
 }
 
 // Writes a line of a name and a number.

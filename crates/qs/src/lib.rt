@@ -1,13 +1,14 @@
 // The functions exported to C and Rust, each a thin cover of a proved one; `rt staticlib qs` writes them to one
 // archive. A slice is passed as a pointer and the count of its elements. The definitions are those of the crates
 // below, in C's numbers (specs/Numbers, specs/Arguments).
-// Below it stand the reader (parse), field reads (de, fields), decoding (decode), the test for UTF-8 (utf8), the
-// settings (config) and the answer's struct (reading).
+// Below it stand the reader (parse), field reads (de, fields), the sheet (print), decoding (decode), the test for UTF-8
+// (utf8), the settings (config) and the answer's struct (reading).
 ghost use mathlib.Core.Path.{_≡_};
 ghost use Rattle.decode.specs.Decoding.{answer, written};
 ghost use Rattle.utf8.specs.Test.{utf8};
 ghost use Rattle.reading.specs.Reading.{reading};
 ghost use Rattle.de.specs.Reads.{textRead, listRead};
+ghost use Rattle.print.specs.Printing.{printing};
 ghost use Rattle.qs.specs.Numbers.{lengthOrNo, oneOrZero, OneForUtf8};
 ghost use Rattle.qs.specs.Arguments.{settings, behavior};
 use config::Config;
@@ -116,4 +117,25 @@ pub extern "C" fn qs_list(
     let config = settings(depth, form);
     let duplicates = behavior(duplicates);
     de::deserialize_seq(input, name, config, duplicates, words, text, list)
+}
+
+// Reads `input` as `qs_parse` does, and then writes the sheet of its tree into `page`, 73 bytes a value, with the rest
+// of `page` as it was. Where `page` is shorter, and where the reading is refused, it is unchanged.
+#[no_mangle]
+pub extern "C" fn qs_sheet(
+    depth: u32,
+    form: u32,
+    input: &[u8],
+    words: &mut [u32],
+    text: &mut [u8],
+    page: &mut [u8],
+) -> Reading
+    ensures { λ r. ⌜ record {
+      reading = record { answer = r; words = now (words .exit); text = now (text .exit) };
+      page = now (page .exit);
+    }
+        ≡ printing (settings depth form) (now (input .entry)) (now (words .entry)) (now (text .entry))
+        (now (page .entry)) ⌝ }
+{
+    print::print_sheet(input, settings(depth, form), words, text, page)
 }

@@ -36,6 +36,11 @@ accepts records bytes = record { number = 0; place = 0; records = records; bytes
 abbrev pub refuses : Refusal → ℕ → Reading
 refuses x place = record { number = code x; place = place; records = 0; bytes = 0 }
 
+-- The answer of a call that is refused after its reading was accepted: "place 0", and the counts "as the reading left
+-- them".
+abbrev pub refusedAfter : Reading → Refusal → Reading
+refusedAfter a x = record { number = code x; place = 0; records = a .records; bytes = a .bytes }
+
 -- What is lent: as many records as the words make, and the bytes of the text.
 abbrev pub lentBy : List ℕ → List ℕ → Lent
 lentBy words text = record { records = recordCount words; bytes = length text }

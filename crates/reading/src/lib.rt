@@ -1,9 +1,14 @@
 // What a query string means: document 01's reading as definitions (specs/) and the theorems over them (proofs/). It has
-// no code but the struct of a reading's answer and the kinds of a single value. The headline is specs/Reading; what is
-// proved of it stands in specs/Answers, Limits, Placed, TreeHeld, ReadBack, Counts, Shape, UniqueKeys, Space, Fitting,
-// Joining, Growth, Starred and Others, and of what growth rules out in specs/Lost.
+// no code but the struct of a reading's answer, what a call makes of it that is refused later, and the kinds of a
+// single value. The headline is specs/Reading; what is proved of it stands in specs/Answers, Limits, Placed, TreeHeld,
+// ReadBack, Counts, Shape, UniqueKeys, Space, Fitting, Joining, Growth, Starred and Others, and of what growth rules
+// out in specs/Lost.
 // Below it stand the settings (config), the key rule (key), decoding (decode), the refusals (refusals), a record's row
 // (row), bytes by name (ascii) and laws.
+ghost use mathlib.Core.Path.{_≡_};
+ghost use Rattle.reading.specs.Reading.{refusedAfter};
+use refusals::Refusal;
+use refusals::code;
 
 // Document 01's result of a reading: number (0 accepted), place (0 if accepted), records used and text bytes used, the
 // last two 0 on refusal. C gets it as it stands.
@@ -13,6 +18,20 @@ pub struct Reading {
     pub place: u32,
     pub records: u32,
     pub bytes: u32,
+}
+
+impl Reading {
+    // The answer of a call that is refused after its reading was accepted, with this answer, whose counts stay.
+    pub fn refused_by(self, refusal: Refusal) -> Reading
+        ensures { λ r. ⌜ r ≡ refusedAfter self refusal ⌝ }
+    {
+        Reading {
+            number: code(refusal),
+            place: 0,
+            records: self.records,
+            bytes: self.bytes,
+        }
+    }
 }
 
 // The kind of a single value (document 01's term) that is added to a tree; a String is a raw segment, which stands

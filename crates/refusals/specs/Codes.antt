@@ -1,4 +1,4 @@
--- Document 01, 'Refused readings, in checking order' and 'Field reads': the number of each refusal.
+-- Document 01, 'Refused readings, in checking order' and 'Field reads', and document 02: the number of each refusal.
 use Prim.Native.Nat.{ℕ}
 use Rattle.refusals.specs.declared.Refusal.{Refusal}
 use Rattle.refusals.specs.declared.Refusal.the-variants.{TooDeep, TooLong, NoRecord}
@@ -9,6 +9,7 @@ use Rattle.refusals.specs.declared.Refusal.the-variants.{ByteAfterKey, O
 use Rattle.refusals.specs.declared.Refusal.the-variants.{TooFewRecords, TooLittleText}
 use Rattle.refusals.specs.declared.Refusal.the-variants.{WrongRoot, NoSuchField, WrongKind}
 use Rattle.refusals.specs.declared.Refusal.the-variants.{SeveralValues, MissingIndex, NotUtf8, ShortSlice}
+use Rattle.refusals.specs.declared.Refusal.the-variants.{ShortPage}
 
 abbrev pub code : Refusal → ℕ
 -- "Depth above 64", "Ticket above 65,535 bytes", "Fewer than 8 words lent"
@@ -42,3 +43,5 @@ code MissingIndex = 20
 code NotUtf8 = 21
 -- "slice below two words an element"
 code ShortSlice = 22
+-- document 02, R-1: "the lent page is shorter than 73 bytes a value"
+code ShortPage = 23

@@ -1,10 +1,11 @@
 // The refusals, each said once, and their numbers: what a call answers where it doesn't do what it was asked.
-// Definitions and code take this very enum; `code` (specs/Codes) is its number. 23 to 28 are kept for calls to come.
+// Definitions and code take this very enum; `code` (specs/Codes) is its number. 24 to 28 are kept for calls to come.
 // Nothing stands below it.
 ghost use mathlib.Core.Path.{_≡_};
 ghost use Rattle.refusals.specs.Codes.{code};
 
-// Document 01, 'Refused readings, in checking order' and 'Field reads', in the order of their numbers.
+// Document 01, 'Refused readings, in checking order' and 'Field reads', and document 02's, in the order of their
+// numbers.
 pub enum Refusal {
     // 1 to 3, before the first byte: the depth above its limit, the input above its, fewer words lent than a record
     // has.
@@ -38,6 +39,8 @@ pub enum Refusal {
     NotUtf8,
     // 22: a slice below two words an element.
     ShortSlice,
+    // 23, of a sheet: a page below a line's bytes a value.
+    ShortPage,
 }
 
 // The number of a refusal.
@@ -67,5 +70,6 @@ pub fn code(refusal: Refusal) -> u32
         Refusal::MissingIndex => 20,
         Refusal::NotUtf8 => 21,
         Refusal::ShortSlice => 22,
+        Refusal::ShortPage => 23,
     }
 }

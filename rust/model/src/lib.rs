@@ -1,10 +1,13 @@
-//! A model of document 01's reading, and in `fields` of its field reads. It is recursive, as the source's parser is, with values in a
-//! growing list instead of lent records. It shares nothing with the proved reader, and gives everything that a call answers and leaves.
+//! A model of document 01's reading, in `fields` of its field reads, and in `sheet` of document 02's proof sheet. It is recursive, as
+//! the source's parser is, with values in a growing list instead of lent records. It shares nothing with the proved reader, and gives
+//! everything that a call answers and leaves.
 
 mod fields;
 pub mod row;
+mod sheet;
 pub use fields::{list, text, FieldOutcome};
 use row::WIDTH;
+pub use sheet::{sheet, SheetOutcome, SHEET_LINE};
 
 /// How a reading is set: `depth` is refused above [`MAX_DEPTH`].
 #[derive(Clone, Copy, Debug, PartialEq, Eq)]

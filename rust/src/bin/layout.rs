@@ -4,6 +4,9 @@
 //! told with its number and its place, and with the ticket marked there. Whatever comes from the ticket is shown in quotes, and with
 //! escapes for all that a terminal would obey.
 //!
+//! `layout --sheet TICKET`: the proof sheet of a ticket, as the library prints it: a line a value. It has no byte that a terminal would
+//! obey but its newlines.
+//!
 //! `layout --segment SEGMENT`: the text of a raw segment alone. It goes to standard output byte for byte and with nothing added; only
 //! a terminal gets it with a newline at the end and with control characters spelled out.
 //!
@@ -20,14 +23,18 @@ use std::string::FromUtf8Error;
 
 const REFUSED: u8 = 1;
 const BAD_USAGE: u8 = 2;
-const USAGE: &str = "usage: layout TICKET [NAME...]\n       layout --segment SEGMENT";
+const USAGE: &str = "\
+usage: layout TICKET [NAME...]
+       layout --sheet TICKET
+       layout --segment SEGMENT";
 
 fn main() -> ExitCode {
     let arguments = std::env::args_os().skip(1).map(OsString::into_vec);
     let arguments: Vec<Vec<u8>> = arguments.collect();
     let done = match arguments.as_slice() {
         [option, segment] if option == b"--segment" => show_segment(segment),
-        [option, ..] if option == b"--segment" => return bad_usage(),
+        [option, input] if option == b"--sheet" => show_sheet(input),
+        [option, ..] if option == b"--segment" || option == b"--sheet" => return bad_usage(),
         [input] => show_root(input),
         [input, names @ ..] => show_fields(input, names),
         [] => return bad_usage(),
@@ -204,6 +211,21 @@ fn refused(input: &[u8], number: u32, place: u32) -> String {
     );
     let mark = " ".repeat(before.len()) + "^";
     format!("{why} at place {place}\n  {before}{after}\n  {mark}")
+}
+
+/// The sheet of a ticket.
+fn show_sheet(input: &[u8]) -> Shown {
+    let (mut records, mut text) = qs::buffers(input.len());
+    let mut page = vec![0; qs::sheet_room(input.len())];
+    let reading = qs::sheet(Config::default(), input, &mut records, &mut text, &mut page);
+    if reading.number != refusal::ACCEPTED {
+        return Err(refused(input, reading.number, reading.place).into());
+    }
+    page.truncate(qs::SHEET_LINE * reading.records as usize);
+    let mut out = io::stdout().lock();
+    out.write_all(&page)?;
+    out.flush()?;
+    Ok(())
 }
 
 /// The text of a segment.

@@ -30,6 +30,7 @@ static void check(int holds, const char *what, int line) {
 static uint32_t words[8 * QS_RECORD_WORDS];
 static uint8_t text[16];
 static uint32_t list[6];
+static uint8_t page[2 * QS_SHEET_LINE + 5];
 
 /* Records and text as two slices. */
 #define LENT words, COUNT(words), text, sizeof text
@@ -38,6 +39,7 @@ static void fill(void) {
     memset(words, 7, sizeof words);
     memset(text, 7, sizeof text);
     memset(list, 7, sizeof list);
+    memset(page, 7, sizeof page);
 }
 
 static int all(const void *bytes, size_t length, uint8_t byte) {
@@ -70,6 +72,7 @@ static void numbers(void) {
     CHECK(QS_RECORD_WORDS == RUST_RECORD_WORDS);
     CHECK(QS_MAX_DEPTH == RUST_MAX_DEPTH);
     CHECK(QS_MAX_INPUT == RUST_MAX_INPUT);
+    CHECK(QS_SHEET_LINE == RUST_SHEET_LINE);
     CHECK(sizeof(struct qs_reading) == RUST_READING_SIZE);
     CHECK(sizeof(struct qs_field_read) == RUST_FIELD_READ_SIZE);
 }
@@ -130,6 +133,32 @@ static void read_list(void) {
     CHECK(read.number == 19 && read.length == 0 && all(list, sizeof list, 0));
 }
 
+static void sheet(void) {
+    static const size_t two_lines = 2 * QS_SHEET_LINE;
+    char lines[2 * QS_SHEET_LINE + 1];
+    struct qs_reading reading;
+    snprintf(lines, sizeof lines, "%-72s\n%-72s\n", "  0       map", "  1     1 stri a                         1");
+    fill();
+    reading = qs_sheet(5, 0, SLICE("a=1"), LENT, page, sizeof page);
+    CHECK(reading.number == 0 && reading.place == 0 && reading.records == 2 && reading.bytes == 2);
+    CHECK(memcmp(page, lines, two_lines) == 0 && all(page + two_lines, sizeof page - two_lines, 7));
+    CHECK(memcmp(text, "a1", 2) == 0 && all(text + 2, sizeof text - 2, 0));
+    fill();
+    reading = qs_sheet(5, 0, SLICE("a=1"), LENT, page, two_lines - 1);
+    CHECK(reading.number == 23 && reading.place == 0 && reading.records == 2 && reading.bytes == 2);
+    CHECK(words[0] == 1 && words[QS_RECORD_WORDS] == 3 && memcmp(text, "a1", 2) == 0 && all(page, sizeof page, 7));
+    reading = qs_sheet(5, 0, NULL, 0, words, COUNT(words), NULL, 0, NULL, 0);
+    CHECK(reading.number == 23 && reading.place == 0 && reading.records == 1 && reading.bytes == 0);
+    reading = qs_sheet(5, 0, NULL, 0, words, COUNT(words), NULL, 0, page, QS_SHEET_LINE);
+    snprintf(lines, sizeof lines, "%-72s\n", "  0       nova");
+    CHECK(reading.number == 0 && reading.records == 1 && memcmp(page, lines, QS_SHEET_LINE) == 0);
+    fill();
+    reading = qs_sheet(5, 1, SLICE("a%5B"), LENT, page, sizeof page);
+    CHECK(reading.number == 4 && reading.place == 5 && reading.records == 0 && all(page, sizeof page, 7));
+    reading = qs_sheet(QS_MAX_DEPTH + 1, 0, SLICE("a"), LENT, NULL, 0);
+    CHECK(reading.number == 1 && reading.place == 0 && reading.records == 0 && reading.bytes == 0);
+}
+
 int main(void) {
     numbers();
     decode();
@@ -137,6 +166,7 @@ int main(void) {
     parse();
     read_text();
     read_list();
+    sheet();
     printf("%d checks, %d failed\n", checks, failures);
     return failures > 0;
 }

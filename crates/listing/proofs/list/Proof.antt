@@ -12,8 +12,8 @@ use Rattle.listing.proofs.list.Tie as tie
 write-answer-requires : tie.Need-write-answer-requires
 write-answer-requires c κs = search needs
 
-write-values-requires : tie.Need-write-values-requires
-write-values-requires c κs = search needs
+write-accepted-requires : tie.Need-write-accepted-requires
+write-accepted-requires c κs = search needs
 
 answer-at-requires : tie.Need-answer-at-requires
 answer-at-requires c κs = search needs
@@ -24,15 +24,15 @@ same-length c = search needs
 returns : tie.Need-returns
 unfolding boundedListing
 returns c =
-    let at-write-values = c .before .before .before in
-    let at-write-answer = at-write-values .before .before .before .before in
-    let p = puts-then (at-write-answer .write-answer .ensures) (at-write-values .write-values .ensures) in (
-      c .answer-at .ensures ∙ answered _ _ _ _ p (length (at-write-values .write-values .last .1 .1 .1 .0))
-          (omega (arith, at-write-values .write-values .kept .1 .1 .1 .0, at-write-answer .write-answer .kept .1 .0)),
+    let at-write-accepted = c .before .before .before in
+    let at-write-answer = at-write-accepted .before .before .before .before in
+    let p = puts-then (at-write-answer .write-answer .ensures) (at-write-accepted .write-accepted .ensures) in (
+      c .answer-at .ensures ∙ answered _ _ _ _ p (length (at-write-accepted .write-accepted .last .1 .1 .1 .0))
+          (omega (arith, at-write-accepted .write-accepted .kept .1 .1 .1 .0, at-write-answer .write-answer .kept .1 .0)),
       all-filled _ _ _ _ p,
     )
 
 pub list-spec : {M : Type 1} → statement M
 list-spec =
     tie.close
-    (tie.spec write-answer-requires write-values-requires answer-at-requires same-length returns)
+    (tie.spec write-answer-requires write-accepted-requires answer-at-requires same-length returns)

@@ -1,8 +1,10 @@
 -- Unkeyed is `-`; an Int is `i` and its decimal, and any other kind `s` and its part of the text in hex.
 use native.Mathlib.Omega.{arith}
+use mathlib.Core.Path.{ap}
 use borrow.Author.Tests.{not-true, not-false}
 use Rattle.output.proofs.Pages.{puts-then, puts-same}
-use Rattle.listing.proofs.Items.{no-key, int-key, string-key}
+use Rattle.listed.proofs.Items.{no-key, int-key, string-key}
+use Rattle.listing.specs.Lines.{keyItem}
 use Rattle.listing.proofs.lines.write_key.Statement.{statement}
 use Rattle.listing.proofs.lines.write_key.Tie as tie
 
@@ -15,9 +17,9 @@ same-length c = omega arith
 returns : tie.Need-returns
 returns c =
     let at-if1 = c .before .before .before .before in
-    let start = at-if1 .before .before .before .before in
+    let start = at-if1 .before .before .before .before .before in
     let s = start .args in puts-same (c .before .before .write-byte .ensures)
-    (no-key (s .words .now) (s .text .now) (s .n) (s .keyed) (not-true (s .keyed) (at-if1 .if1 .taken)))
+    (ap keyItem (no-key (s .words .now) (s .text .now) (s .item .n) (s .item .keyed) (not-true (s .item .keyed) (at-if1 .if1 .taken))))
 
 word-or-zero-requires : tie.Need-word-or-zero-requires
 word-or-zero-requires c κs = omega arith
@@ -44,10 +46,10 @@ returns-2 c =
     let at-word-or-zero2 = at-if2 .before in
     let at-word-or-zero = at-word-or-zero2 .before in
     let at-if1 = at-word-or-zero .before in
-    let start = at-if1 .before .before .before .before in
+    let start = at-if1 .before .before .before .before .before in
     let s = start .args in puts-same (puts-then (at-write-byte2 .write-byte2 .ensures) (c .before .before .write-decimal .ensures))
-    (int-key (s .words .now) (s .text .now) (s .n) (s .keyed) _ _ (not-false (s .keyed) (at-if1 .if1 .left)) (at-word-or-zero .word-or-zero .ensures)
-    (at-if2 .if2 .taken) (at-word-or-zero2 .word-or-zero2 .ensures))
+    (ap keyItem (int-key (s .words .now) (s .text .now) (s .item .n) (s .item .keyed) _ _ (not-false (s .item .keyed) (at-if1 .if1 .left))
+    (at-word-or-zero .word-or-zero .ensures) (at-if2 .if2 .taken) (at-word-or-zero2 .word-or-zero2 .ensures)))
 
 word-or-zero-requires-3 : tie.Need-word-or-zero-requires-3
 word-or-zero-requires-3 c κs = omega arith
@@ -73,10 +75,11 @@ returns-3 c =
     let at-word-or-zero2 = at-if2 .before in
     let at-word-or-zero = at-word-or-zero2 .before in
     let at-if1 = at-word-or-zero .before in
-    let start = at-if1 .before .before .before .before in
+    let start = at-if1 .before .before .before .before .before in
     let s = start .args in puts-same (puts-then (at-write-byte3 .write-byte3 .ensures) (c .before .before .write-hex .ensures))
-    (string-key (s .words .now) (s .text .now) (s .n) (s .keyed) _ _ _ _ (not-false (s .keyed) (at-if1 .if1 .left)) (at-word-or-zero .word-or-zero .ensures)
-    (at-if2 .if2 .left) (at-word-or-zero2 .word-or-zero2 .ensures) (at-word-or-zero3 .word-or-zero3 .ensures) (at-text-part .text-part .ensures))
+    (ap keyItem (string-key (s .words .now) (s .text .now) (s .item .n) (s .item .keyed) _ _ _ _ (not-false (s .item .keyed) (at-if1 .if1 .left))
+    (at-word-or-zero .word-or-zero .ensures) (at-if2 .if2 .left) (at-word-or-zero2 .word-or-zero2 .ensures)
+    (at-word-or-zero3 .word-or-zero3 .ensures) (at-text-part .text-part .ensures)))
 
 pub write-key-spec : {M : Type 1} → statement M
 write-key-spec =

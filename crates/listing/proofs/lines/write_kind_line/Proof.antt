@@ -1,6 +1,6 @@
 -- Name, kind and newline follow each other, and the kind is the record's word, or 0 where there is none.
 use native.Mathlib.Omega.{arith}
-use Rattle.listing.proofs.ByKind.{name-is}
+use Rattle.listed.proofs.ByKind.{name-is}
 use mathlib.Core.Path.{refl, sym}
 use Rattle.output.proofs.Pages.{puts-then, puts-same}
 use Rattle.listing.proofs.lines.write_kind_line.Statement.{statement}

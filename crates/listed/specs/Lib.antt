@@ -1,0 +1,4 @@
+pub mod Listed
+pub mod Walking
+pub mod Whole
+pub mod Levels

@@ -1,0 +1,7 @@
+pub mod Fitted
+pub mod Items
+pub mod Lengths
+pub mod Shown
+pub mod Placed
+pub mod Widths
+pub mod Examples
