@@ -4,7 +4,8 @@
  * Every call ends on every input and allocates nothing. A slice is a pointer and a count of its elements; an empty one may be
  * null. Slices that a call writes to must not overlap with each other or with those that it reads. Link target/staticlib/libqs.a.
  *
- * The numbers that a call answers; the first one met stands, and 1 to 3 come with place 0 and untouched buffers:
+ * The numbers that a call answers; the first one met stands. Those met before the first byte, 24, 25 and then 1 to 3, come with
+ * place 0 and untouched buffers:
  *   0 accepted
  *   1 depth above QS_MAX_DEPTH, 2 input above QS_MAX_INPUT, 3 not one record lent
  *   4 end straight after an open bracket, 5 end before the closing bracket
@@ -18,6 +19,9 @@
  *   and of a text or at each element's turn: 20 its index is missing, 18 it is of the wrong kind, 19 several values, 21 not UTF-8
  * and of a sheet once the reading is accepted, with place 0:
  *   23 a page of fewer than QS_SHEET_LINE bytes for each record used
+ * and of a list of names before anything is read, also before 1:
+ *   24 an end of a name that is below the one before it or above the names' length
+ *   25 fewer than QS_ANSWER_WORDS words lent for each name's answer
  *
  * The words of a record:
  *   0 kind: 0 uninitialized, 1 map, 2 sequence, 3 string, 4 null, 5 no value
@@ -43,12 +47,14 @@ extern "C" {
 #define QS_MAX_INPUT 65535
 /* The bytes of a sheet's line: 72 characters and a newline. */
 #define QS_SHEET_LINE 73
+/* The words of a name's answer: number, offset and length. */
+#define QS_ANSWER_WORDS 3
 
 /* What a reading answers. */
 struct qs_reading {
-    uint32_t number;  /* 0 where it was accepted, else the refusal's number, 1 to 15; qs_sheet: or 23 */
-    uint32_t place;   /* where a refusal was met: the bytes taken, the end counted as one; 0 where it was accepted, and under 23 */
-    uint32_t records; /* records and bytes of text that are used; both 0 under 1 to 15 */
+    uint32_t number;  /* 0 where it was accepted, else the refusal's number, 1 to 15; qs_sheet: or 23; qs_fields: or 24 or 25 */
+    uint32_t place;   /* where a refusal was met: the bytes taken, the end counted as one; 0 under 0 and 23 to 25 */
+    uint32_t records; /* records and bytes of text that are used; both 0 under every number but 0 and 23 */
     uint32_t bytes;
 };
 
@@ -96,6 +102,18 @@ struct qs_field_read qs_text(uint32_t depth, uint32_t form, uint32_t duplicates,
 struct qs_field_read qs_list(uint32_t depth, uint32_t form, uint32_t duplicates, const uint8_t *input, size_t input_len,
                              const uint8_t *name, size_t name_len, uint32_t *records, size_t records_len, uint8_t *text,
                              size_t text_len, uint32_t *list, size_t list_len);
+
+/*
+ * Reads a query string once, as qs_parse does, and then the text of the root's field of each name, as qs_text does. The names lie
+ * end to end in names, the first from 0, and ends has the end of each; equal ends are an empty name, and the last end may be below
+ * names_len. The answers are written into answers in the order of the names, QS_ANSWER_WORDS words each: number, offset and length
+ * as qs_text of that name answers them, a number from 16 on with two zeros. The call's own number is 0 once the reading is
+ * accepted, whatever the answers are. The rest of answers stays as it was, and all of it does under every number but 0. 24 and 25
+ * leave records and text as they were too.
+ */
+struct qs_reading qs_fields(uint32_t depth, uint32_t form, uint32_t duplicates, const uint8_t *input, size_t input_len,
+                            const uint8_t *names, size_t names_len, const uint32_t *ends, size_t ends_len, uint32_t *records,
+                            size_t records_len, uint8_t *text, size_t text_len, uint32_t *answers, size_t answers_len);
 
 /*
  * Reads a query string as qs_parse does, and then writes the sheet of its tree into page: a line of QS_SHEET_LINE bytes for each

@@ -1,5 +1,5 @@
-//! How long `qs_parse` takes beside the crate's own `parse`, and `qs_text` and `qs_list` beside `qs_parse`, in one
-//! process:
+//! How long `qs_parse` takes beside the crate's own `parse`, `qs_text` and `qs_list` beside `qs_parse`, and `qs_fields` beside
+//! as many calls of `qs_text`, in one process:
 //!
 //!     rust/cargo.sh bench
 //!     rust/cargo.sh bench --bench parse -- falling 40000
@@ -15,9 +15,9 @@
 #[path = "../tests/common/mod.rs"]
 mod common;
 
-use common::kinds::{ordered, pairs, Kind, HARD, USUAL};
-use common::orders::falling;
-use qs::{refusal, Config, DuplicateKeyBehavior::TakeLast};
+use common::kinds::{joined, ordered, pairs, plate, Kind, HARD, USUAL};
+use common::orders::{falling, rising};
+use qs::{refusal, Config, DuplicateKeyBehavior::TakeLast, Names, ANSWER_WORDS};
 use std::fmt::Write as _;
 use std::hint::black_box;
 use std::time::{Duration, Instant};
@@ -36,8 +36,17 @@ const FIELDS: &str = "
 qs_text and qs_list, each of which reads first, against qs_parse of the same input: what is above 1 is the field read's.
 ";
 
-/// The usual sizes, and the two of them that tell the growth.
+const MANY: &str = "
+qs_fields of 20 names, which reads once, against 20 calls of qs_text, which read 20 times.
+";
+
+const MANY_ALONE: &str = "
+qs_fields of 20 names against qs_parse of the same input: what is above 1 is that of the names.
+";
+
+/// The usual sizes, those for many names, and the two that tell the growth.
 const SIZES: [usize; 4] = [1_000, 20_000, 40_000, 65_535];
+const MANY_SIZES: [usize; 2] = [2_000, 40_000];
 const GROWTH: [usize; 2] = [20_000, 40_000];
 
 /// How long two calls are made in turns, unless the fewest turns take longer.
@@ -54,16 +63,29 @@ fn main() {
     let kinds = || USUAL.iter().chain(&HARD);
     wanted.table(
         PARSE,
+        &SIZES,
         kinds().map(|kind| (kind.name, |length| parse(kind, length))),
     );
     let fields = FIELD_READS.iter();
     wanted.table(
         FIELDS,
+        &SIZES,
         fields.map(|read| (read.name, |length| field(read, length))),
     );
+    for (head, against) in [
+        (MANY, against_texts as fn(Many) -> Times),
+        (MANY_ALONE, against_parse),
+    ] {
+        let asked = MANY_NAMES.iter();
+        wanted.table(
+            head,
+            &MANY_SIZES,
+            asked.map(|(name, make)| (*name, move |length| against(Many::new(make(length))))),
+        );
+    }
 }
 
-/// What the arguments ask for.
+/// What the arguments ask for; without sizes it is the usual ones.
 struct Wanted {
     names: Vec<String>,
     sizes: Vec<usize>,
@@ -75,14 +97,8 @@ impl Wanted {
         let words = arguments.filter(|argument| !argument.starts_with("--"));
         let (sizes, names): (Vec<_>, Vec<_>) =
             words.partition(|word| word.parse::<usize>().is_ok());
-        let sizes: Vec<usize> = sizes.iter().flat_map(|size| size.parse()).collect();
-        match sizes.is_empty() {
-            true => Wanted {
-                names,
-                sizes: SIZES.to_vec(),
-            },
-            false => Wanted { names, sizes },
-        }
+        let sizes = sizes.iter().flat_map(|size| size.parse()).collect();
+        Wanted { names, sizes }
     }
 
     fn wants(&self, name: &str) -> bool {
@@ -93,41 +109,45 @@ impl Wanted {
     fn table<T: Fn(usize) -> Times>(
         &self,
         head: &str,
+        usual: &[usize],
         things: impl Iterator<Item = (&'static str, T)>,
     ) {
         let mut things = things.filter(|(name, _)| self.wants(name)).peekable();
         if things.peek().is_none() {
             return;
         }
-        let columns: String = self
-            .sizes
+        let sizes = match self.sizes.is_empty() {
+            true => usual,
+            false => &self.sizes,
+        };
+        let columns: String = sizes
             .iter()
             .map(|size| format!(" {size}: µs | ratio |"))
             .collect();
         println!(
             "{head}\n| kind |{columns} growth |\n|---|{}---|",
-            "---|---|".repeat(self.sizes.len())
+            "---|---|".repeat(sizes.len())
         );
         for (name, times) in things {
-            println!("{}", self.row(name, times));
+            println!("{}", row(name, sizes, times));
         }
     }
+}
 
-    fn row(&self, name: &str, times: impl Fn(usize) -> Times) -> String {
-        let mut row = format!("| {name} |");
-        let mut of_growth = [None; 2];
-        for &size in &self.sizes {
-            let Times { ours, other } = times(size);
-            let (ours, other) = (ours.as_secs_f64(), other.as_secs_f64());
-            write!(row, " {:.1} | {:.2} |", ours * 1e6, ours / other).expect("a String grows");
-            if let Some(place) = GROWTH.iter().position(|&of| of == size) {
-                of_growth[place] = Some(ours);
-            }
+fn row(name: &str, sizes: &[usize], times: impl Fn(usize) -> Times) -> String {
+    let mut row = format!("| {name} |");
+    let mut of_growth = [None; 2];
+    for &size in sizes {
+        let Times { ours, other } = times(size);
+        let (ours, other) = (ours.as_secs_f64(), other.as_secs_f64());
+        write!(row, " {:.1} | {:.2} |", ours * 1e6, ours / other).expect("a String grows");
+        if let Some(place) = GROWTH.iter().position(|&of| of == size) {
+            of_growth[place] = Some(ours);
         }
-        match of_growth {
-            [Some(small), Some(large)] => row + &format!(" {:.2} |", large / small),
-            _ => row + " |",
-        }
+    }
+    match of_growth {
+        [Some(small), Some(large)] => row + &format!(" {:.2} |", large / small),
+        _ => row + " |",
     }
 }
 
@@ -198,10 +218,8 @@ const fn list(name: &'static str, make: fn(usize) -> (Vec<u8>, Vec<u8>)) -> Fiel
 /// Keys come falling here, where that is read fastest, so that the field read shows beside it.
 const FIELD_READS: [FieldRead; 7] = [
     text("text, last of many fields", |length| {
-        let name = |i: usize| format!("k{i:05}");
-        let last = name(length / 9 - 1).into_bytes();
-        let pair = |i| name(i) + "=v";
-        (ordered(length, 9, falling, pair), last)
+        let last = key(length / 9 - 1).into_bytes();
+        (ordered(length, 9, falling, |i| key(i) + "=v"), last)
     }),
     text("text, one long value", |length| {
         let value = "%C3%A9e".repeat((length - 2) / 7);
@@ -223,6 +241,11 @@ const FIELD_READS: [FieldRead; 7] = [
     }),
 ];
 
+/// Keys of one length, in the order of their numbers; a pair of one is 9 bytes with its `&`.
+fn key(i: usize) -> String {
+    format!("k{i:05}")
+}
+
 /// The field `a` of an input.
 fn of_a(input: Vec<u8>) -> (Vec<u8>, Vec<u8>) {
     (input, b"a".to_vec())
@@ -232,8 +255,7 @@ fn of_a(input: Vec<u8>) -> (Vec<u8>, Vec<u8>) {
 fn field(read: &FieldRead, length: usize) -> Times {
     let (input, name) = (read.make)(length);
     let usual = Config::default();
-    let ((mut records, mut text), (mut records_alone, mut text_alone)) =
-        (qs::buffers(input.len()), qs::buffers(input.len()));
+    let (mut records, mut text) = qs::buffers(input.len());
     let mut list = vec![0; 2 * (input.len() + 1)];
     Times::least(
         || {
@@ -252,14 +274,118 @@ fn field(read: &FieldRead, length: usize) -> Times {
             };
             assert_eq!(read.reading.number, refusal::ACCEPTED);
         },
-        || {
-            let reading = qs::parse(
-                usual,
-                black_box(&input),
-                &mut records_alone,
-                &mut text_alone,
-            );
-            assert_eq!(reading.number, refusal::ACCEPTED);
-        },
+        alone(&input),
     )
+}
+
+/// A reading alone, in buffers of its own.
+fn alone(input: &[u8]) -> impl FnMut() + '_ {
+    let (mut records, mut text) = qs::buffers(input.len());
+    move || {
+        let input = black_box(input);
+        let reading = qs::parse(Config::default(), input, &mut records, &mut text);
+        assert_eq!(reading.number, refusal::ACCEPTED);
+    }
+}
+
+/// How many names are asked for at once.
+const TWENTY: usize = 20;
+
+/// Inputs for many names, each kind with its name: from a length an input, and the names.
+type MakeMany = fn(usize) -> (Vec<u8>, Vec<String>);
+
+const MANY_NAMES: [(&str, MakeMany); 4] = [
+    ("fields, before plates", |length| {
+        let name = |i| format!("field{i}");
+        let fields = (0..TWENTY).map(|i| name(i) + "=Fog+at+dawn");
+        let input = joined(length, fields.chain((0..).map(plate)));
+        (input, (0..TWENTY).map(name).collect())
+    }),
+    ("fields, of many", |length| {
+        let input = ordered(length, 9, rising, |i| key(i) + "=v");
+        (input, spread(length / 9).map(key).collect())
+    }),
+    ("fields, long values", |length| {
+        let value = "%C3%A9e".repeat((length / TWENTY).saturating_sub(8) / 7);
+        let input = joined(length, (0..TWENTY).map(|i| format!("{}={value}", key(i))));
+        (input, (0..TWENTY).map(key).collect())
+    }),
+    ("fields, absent", |length| {
+        let input = ordered(length, 9, rising, |i| key(i) + "=v");
+        (input, spread(length / 9).map(|i| key(i) + "x").collect())
+    }),
+];
+
+/// Twenty of so many numbers, spread evenly.
+fn spread(count: usize) -> impl Iterator<Item = usize> {
+    (0..TWENTY).map(move |i| i * count / TWENTY)
+}
+
+/// An input, and names laid out; and what is lent to `qs_fields`.
+struct Many {
+    input: Vec<u8>,
+    names: Vec<String>,
+    bytes: Vec<u8>,
+    ends: Vec<u32>,
+    records: Vec<u32>,
+    text: Vec<u8>,
+    answers: Vec<u32>,
+}
+
+impl Many {
+    fn new((input, names): (Vec<u8>, Vec<String>)) -> Self {
+        let (bytes, ends) = qs::laid_out(&names);
+        let (records, text) = qs::buffers(input.len());
+        Many {
+            input,
+            answers: vec![0; ANSWER_WORDS * names.len()],
+            names,
+            bytes,
+            ends,
+            records,
+            text,
+        }
+    }
+
+    fn fields(&mut self) {
+        let names = Names {
+            bytes: &self.bytes,
+            ends: &self.ends,
+        };
+        let reading = qs::fields_into(
+            Config::default(),
+            TakeLast,
+            black_box(&self.input),
+            names,
+            &mut self.records,
+            &mut self.text,
+            &mut self.answers,
+        );
+        assert_eq!(reading.number, refusal::ACCEPTED);
+    }
+}
+
+/// One call for all names, and one for each.
+fn against_texts(mut many: Many) -> Times {
+    let (input, names) = (many.input.clone(), many.names.clone());
+    let (mut records, mut text) = qs::buffers(input.len());
+    let mut single = |name: &String| {
+        let (input, name) = (black_box(&input), name.as_bytes());
+        let read = qs::text(
+            Config::default(),
+            TakeLast,
+            input,
+            name,
+            &mut records,
+            &mut text,
+        );
+        assert!(!refusal::OF_A_READING.contains(&read.reading.number));
+    };
+    Times::least(|| many.fields(), || names.iter().for_each(&mut single))
+}
+
+/// One call for all names, and a reading alone.
+fn against_parse(mut many: Many) -> Times {
+    let input = many.input.clone();
+    Times::least(|| many.fields(), alone(&input))
 }

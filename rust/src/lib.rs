@@ -2,7 +2,11 @@
 //!
 //! The proofs don't reach past the C boundary: nothing but the tests holds the declarations in
 //! [`c`] against the library's own source. Each function there has one safe wrapper here, which
-//! hands slices over whole and turns the number that C gets into a Rust value.
+//! hands slices over whole and turns the number that C gets into a Rust value; [`fields`] stands on
+//! its wrapper [`fields_into`].
+
+use std::iter::FusedIterator;
+use std::ops::Range;
 
 pub mod refusal;
 pub mod row;
@@ -52,6 +56,23 @@ mod c {
             list: *mut u32,
             list_len: usize,
         ) -> FieldRead;
+        pub fn qs_fields(
+            depth: u32,
+            form: u32,
+            duplicates: u32,
+            input: *const u8,
+            input_len: usize,
+            names: *const u8,
+            names_len: usize,
+            ends: *const u32,
+            ends_len: usize,
+            records: *mut u32,
+            records_len: usize,
+            text: *mut u8,
+            text_len: usize,
+            answers: *mut u32,
+            answers_len: usize,
+        ) -> Reading;
         pub fn qs_sheet(
             depth: u32,
             form: u32,
@@ -131,14 +152,14 @@ impl Default for Config {
 }
 
 /// What a reading answers: `number` is 0 where it was accepted, else the number of its [`refusal`], 1 to 15. Of a [`sheet`] it may also
-/// be 23, and then the reading itself was accepted.
+/// be 23, and then the reading itself was accepted; of [`fields_into`] 24 or 25, and then nothing was read.
 #[repr(C)]
 #[derive(Clone, Copy, Debug, PartialEq, Eq)]
 pub struct Reading {
     pub number: u32,
-    /// Where a refusal was met: the bytes taken so far, the end counted as one; 0 where the reading was accepted, and under 23.
+    /// Where a refusal was met: the bytes taken so far, the end counted as one; 0 where the reading was accepted, and under 23 to 25.
     pub place: u32,
-    /// The records and the bytes of text that are used; both 0 where the reading was refused, by 1 to 15.
+    /// The records and the bytes of text that are used; both 0 where the reading was refused, by 1 to 15, or there was none.
     pub records: u32,
     pub bytes: u32,
 }
@@ -301,6 +322,185 @@ pub fn list(
         )
     }
 }
+
+/// The words of a name's answer: number, offset and length.
+pub const ANSWER_WORDS: usize = 3;
+
+/// Names for [`fields_into`], end to end; [`laid_out`] lays them so. Name `i` is the part of `bytes` up to `ends[i]` from the end
+/// before it, the first from 0.
+///
+/// Equal ends are an empty name, and the last end may be below the number of the bytes.
+#[derive(Clone, Copy, Debug)]
+pub struct Names<'a> {
+    pub bytes: &'a [u8],
+    pub ends: &'a [u32],
+}
+
+/// Names laid end to end, and the end of each, as [`Names`] has them.
+///
+/// ```
+/// assert_eq!(qs::laid_out(&["w", "", "page"]), (b"wpage".to_vec(), vec![1, 1, 5]));
+/// ```
+///
+/// # Panics
+///
+/// Where the names have 4 GiB or more together, which ends of 32 bits don't reach.
+pub fn laid_out<N: AsRef<[u8]>>(names: &[N]) -> (Vec<u8>, Vec<u32>) {
+    let names: Vec<&[u8]> = names.iter().map(AsRef::as_ref).collect();
+    let mut end = 0;
+    let ends = names.iter().map(|name| {
+        end += name.len();
+        u32::try_from(end).expect("names of 4 GiB or more have no ends of 32 bits")
+    });
+    // Before the names are copied, so that too many are not.
+    let ends = ends.collect();
+    (names.concat(), ends)
+}
+
+/// Reads a query string once, as [`parse`] does, and then the root's field of each name, as [`text`] does. It leaves records and text
+/// as `parse` does.
+///
+/// Each name in turn gets [`ANSWER_WORDS`] words of `answers`: number, offset and length as `text` answers them, a number from 16 on
+/// with two zeros. The call's own number is 0 once the reading is accepted, whatever the answers are. What `answers` has past the
+/// last one is untouched, and all of it is where that number isn't 0. An end below the one before it or past the names' bytes is
+/// refused (24), then too few words for the answers (25), both before anything is read, with every buffer as it was.
+///
+/// ```
+/// use qs::{refusal, Config, DuplicateKeyBehavior::TakeLast, Names};
+/// let ((mut records, mut text), mut answers) = (qs::buffers(9), [7; 8]);
+/// let (usual, input, names) = (Config::default(), b"h=9&w=fog", Names { bytes: b"wabsent", ends: &[1, 7] });
+/// let reading = qs::fields_into(usual, TakeLast, input, names, &mut records, &mut text, &mut answers);
+/// assert_eq!((reading.number, reading.records, reading.bytes), (0, 3, 6));
+/// assert_eq!((answers, &text[..6]), ([0, 3, 3, refusal::NO_SUCH_FIELD, 0, 0, 7, 7], &b"h9wfog"[..]));
+/// let reading = qs::fields_into(usual, TakeLast, input, names, &mut records, &mut text, &mut answers[..5]);
+/// assert_eq!((reading.number, reading.records), (refusal::SHORT_ANSWERS, 0));
+/// let names = Names { ends: &[7, 1], ..names };
+/// let reading = qs::fields_into(usual, TakeLast, input, names, &mut records, &mut text, &mut answers);
+/// assert_eq!((reading.number, reading.records), (refusal::WRONG_ENDS, 0));
+/// ```
+pub fn fields_into(
+    config: Config,
+    duplicates: DuplicateKeyBehavior,
+    input: &[u8],
+    names: Names,
+    records: &mut [u32],
+    text: &mut [u8],
+    answers: &mut [u32],
+) -> Reading {
+    // SAFETY: the slices live through the call, and `records`, `text` and `answers` are lent to it alone.
+    unsafe {
+        c::qs_fields(
+            config.depth,
+            config.form.into(),
+            duplicates.flag(),
+            input.as_ptr(),
+            input.len(),
+            names.bytes.as_ptr(),
+            names.bytes.len(),
+            names.ends.as_ptr(),
+            names.ends.len(),
+            records.as_mut_ptr(),
+            records.len(),
+            text.as_mut_ptr(),
+            text.len(),
+            answers.as_mut_ptr(),
+            answers.len(),
+        )
+    }
+}
+
+/// As [`fields_into`], which see, with names as they come: it lays them out and makes the words for the answers itself.
+///
+/// A refused reading is the error, and then there is no answer to any name; else each name in turn has its text, or the number of
+/// its own refusal.
+///
+/// ```
+/// use qs::{refusal, Config, DuplicateKeyBehavior::TakeLast};
+/// let (mut records, mut text) = qs::buffers(16);
+/// let names = ["w", "absent", "h", "w"];
+/// let fields = qs::fields(Config::default(), TakeLast, b"h=9&w=fog&w=dew", &names, &mut records, &mut text).unwrap();
+/// assert_eq!((fields.len(), fields.reading().records), (4, 5));
+/// let answers: Vec<_> = fields.collect();
+/// assert_eq!(answers, [Ok(&b"dew"[..]), Err(refusal::NO_SUCH_FIELD), Ok(b"9"), Ok(b"dew")]);
+/// let refused = qs::fields(Config::default(), TakeLast, b"w[", &names, &mut records, &mut text).unwrap_err();
+/// assert_eq!((refused.number, refused.place), (refusal::END_AFTER_OPENING, 3));
+/// ```
+///
+/// # Panics
+///
+/// As [`laid_out`] does, where the names have 4 GiB or more together.
+pub fn fields<'t, N: AsRef<[u8]>>(
+    config: Config,
+    duplicates: DuplicateKeyBehavior,
+    input: &[u8],
+    names: &[N],
+    records: &mut [u32],
+    text: &'t mut [u8],
+) -> Result<Fields<'t>, Reading> {
+    let (bytes, ends) = laid_out(names);
+    let laid = Names {
+        bytes: &bytes,
+        ends: &ends,
+    };
+    let mut answers = vec![0; ANSWER_WORDS * names.len()];
+    let reading = fields_into(config, duplicates, input, laid, records, text, &mut answers);
+    match reading.number {
+        refusal::ACCEPTED => Ok(Fields {
+            reading,
+            text,
+            answers,
+            left: 0..names.len(),
+        }),
+        _ => Err(reading),
+    }
+}
+
+/// The answers of [`fields`] in the order of the names: a text, or the number of a [`refusal`], 16 to 21.
+#[derive(Clone, Debug)]
+pub struct Fields<'t> {
+    reading: Reading,
+    text: &'t [u8],
+    answers: Vec<u32>,
+    /// The names whose answers are still to come.
+    left: Range<usize>,
+}
+
+impl<'t> Fields<'t> {
+    /// What the reading answered; its number is 0.
+    pub fn reading(&self) -> Reading {
+        self.reading
+    }
+
+    fn answer(&self, name: usize) -> Result<&'t [u8], u32> {
+        let words = &self.answers[ANSWER_WORDS * name..];
+        match words[0] {
+            refusal::ACCEPTED => Ok(row::part(self.text, words[1], words[2])),
+            number => Err(number),
+        }
+    }
+}
+
+impl<'t> Iterator for Fields<'t> {
+    type Item = Result<&'t [u8], u32>;
+
+    fn next(&mut self) -> Option<Self::Item> {
+        self.left.next().map(|name| self.answer(name))
+    }
+
+    fn size_hint(&self) -> (usize, Option<usize>) {
+        self.left.size_hint()
+    }
+}
+
+impl DoubleEndedIterator for Fields<'_> {
+    fn next_back(&mut self) -> Option<Self::Item> {
+        self.left.next_back().map(|name| self.answer(name))
+    }
+}
+
+impl ExactSizeIterator for Fields<'_> {}
+
+impl FusedIterator for Fields<'_> {}
 
 /// The bytes of a sheet's line: 72 characters and a newline.
 pub const SHEET_LINE: usize = 73;

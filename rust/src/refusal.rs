@@ -1,7 +1,7 @@
 //! The numbers that a call answers, each with its name and its wording: document 01's refusals, and then document 02's, in the order
 //! of their numbers.
 //!
-//! They are those of the proved crate `refusals`. 24 to 28 are kept for calls to come; a new one is a line of the table.
+//! They are those of the proved crate `refusals`. 26 to 28 are kept for calls to come; a new one is a line of the table.
 
 use std::ops::RangeInclusive;
 
@@ -56,9 +56,11 @@ numbers! {
     NOT_UTF8 = 21: "the text is not UTF-8"
     SHORT_SLICE = 22: "too few words were lent for the list"
     SHORT_PAGE = 23: "too short a page was lent for the sheet"
+    WRONG_ENDS = 24: "the end of a name is below the one before it or past the names"
+    SHORT_ANSWERS = 25: "too few words were lent for the answers"
 }
 
-/// The refusals before the first byte: they leave every buffer as it was.
+/// The refusals of a reading before the first byte: they leave every buffer as it was.
 pub const BEFORE_THE_FIRST_BYTE: RangeInclusive<u32> = TOO_DEEP..=NO_RECORD;
 
 /// The refusals that the crate serde_qs has too when it reads a query string.
@@ -72,3 +74,6 @@ pub const OF_A_FIELD: RangeInclusive<u32> = WRONG_ROOT..=SHORT_SLICE;
 
 /// The refusal of a sheet, once the reading is accepted: it leaves the page as it was.
 pub const OF_A_SHEET: RangeInclusive<u32> = SHORT_PAGE..=SHORT_PAGE;
+
+/// The refusals of a list of names, before the reading: they leave every buffer as it was.
+pub const OF_NAMES: RangeInclusive<u32> = WRONG_ENDS..=SHORT_ANSWERS;

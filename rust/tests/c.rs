@@ -16,12 +16,13 @@ fn run(command: &mut Command) -> String {
 }
 
 /// The Rust side's numbers, defined for the C program to compare with the header's.
-fn numbers() -> [String; 6] {
+fn numbers() -> [String; 7] {
     [
         format!("-DRUST_RECORD_WORDS={}", row::WIDTH),
         format!("-DRUST_MAX_DEPTH={}", Config::MAX_DEPTH),
         format!("-DRUST_MAX_INPUT={}", Config::MAX_LEN),
         format!("-DRUST_SHEET_LINE={}", qs::SHEET_LINE),
+        format!("-DRUST_ANSWER_WORDS={}", qs::ANSWER_WORDS),
         format!("-DRUST_READING_SIZE={}", size_of::<Reading>()),
         format!("-DRUST_FIELD_READ_SIZE={}", size_of::<FieldRead>()),
     ]

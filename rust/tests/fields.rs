@@ -5,8 +5,11 @@
 mod common;
 
 use common::inputs::{fields_query, query, BYTES, NAMES};
-use common::{every_string, outcome, random_config, reference_is_there, settings, times, Random};
-use model::FieldOutcome;
+use common::{
+    every_string, lent, outcome, parsed, random_config, random_duplicates, reference_is_there,
+    settings, times, Numbers, Random, BEFORE,
+};
+use model::{FieldOutcome, Outcome};
 use qs::row::{part, WIDTH};
 use qs::DuplicateKeyBehavior::{self, Error, TakeLast};
 use qs::{refusal, Config, FieldRead};
@@ -14,9 +17,6 @@ use serde_qs_reference::{Key, Tree};
 
 /// What a text read and a list read mean: bytes, or the refusal's number.
 type Meant = (Result<Vec<u8>, u32>, Result<Vec<Vec<u8>>, u32>);
-
-/// What the buffers hold before a read.
-const BEFORE: u8 = 7;
 
 /// The buffers' sizes: words, bytes of text, and words of the list.
 #[derive(Clone, Copy, Debug)]
@@ -38,11 +38,8 @@ impl Sizes {
     }
 
     fn buffers(self) -> (Vec<u32>, Vec<u8>, Vec<u32>) {
-        (
-            vec![BEFORE.into(); self.words],
-            vec![BEFORE; self.bytes],
-            vec![BEFORE.into(); self.list],
-        )
+        let (words, text) = lent(self.words, self.bytes);
+        (words, text, vec![BEFORE.into(); self.list])
     }
 }
 
@@ -163,8 +160,8 @@ fn list_meant(outcome: &FieldOutcome) -> Result<Vec<Vec<u8>>, u32> {
 /// How often each number was answered, by text reads and by list reads.
 #[derive(Default)]
 struct Counts {
-    text: [usize; refusal::ALL.len()],
-    list: [usize; refusal::ALL.len()],
+    text: Numbers,
+    list: Numbers,
 }
 
 impl Counts {
@@ -183,56 +180,32 @@ impl Counts {
     /// With any buffers: all that the model says, and after a reading accepts its counts, words and text.
     fn with_the_model(&mut self, read: Read, sizes: Sizes) -> (FieldOutcome, FieldOutcome) {
         let (text, list) = (read.text(sizes), read.list(sizes));
-        self.text[text.reading.number as usize] += 1;
-        self.list[list.reading.number as usize] += 1;
+        self.text.count(text.reading.number);
+        self.list.count(list.reading.number);
         let described = || format!("{sizes:?} {}", read.described());
         assert_eq!(text, read.model_text(sizes), "{}", described());
         assert_eq!(list, read.model_list(sizes), "{}", described());
-        let (mut words, mut bytes, _) = sizes.buffers();
-        let reading = qs::parse(read.config, read.input, &mut words, &mut bytes);
+        let reading = parsed(read.config, read.input, sizes.words, sizes.bytes);
         for field in [&text, &list] {
-            let left = &field.reading;
-            assert_eq!(
-                (&left.words, &left.text),
-                (&words, &bytes),
-                "{}",
-                described()
-            );
-            assert_eq!(
-                (left.place, left.records, left.bytes),
-                (reading.place, reading.records, reading.bytes),
-                "{}",
-                described()
-            );
+            let number = field.reading.number;
             assert!(
-                left.number == reading.number || reading.number == refusal::ACCEPTED,
+                number == reading.number || reading.number == refusal::ACCEPTED,
                 "{}",
                 described()
             );
+            let left = Outcome {
+                number,
+                ..reading.clone()
+            };
+            assert_eq!(field.reading, left, "{}", described());
         }
         (text, list)
     }
 
-    fn report(&self, what: &str, text: &[usize], list: &[usize]) {
-        println!("{what}: text reads answered 0, 1, … {:?} times", self.text);
-        println!("{what}: list reads answered 0, 1, … {:?} times", self.list);
-        for &number in text {
-            assert!(
-                self.text[number] > 0,
-                "{what}: no text read answered {number}"
-            );
-        }
-        for &number in list {
-            assert!(
-                self.list[number] > 0,
-                "{what}: no list read answered {number}"
-            );
-        }
+    fn report(&self, what: &str, text: &[u32], list: &[u32]) {
+        self.text.report(&format!("{what}: text reads"), text);
+        self.list.report(&format!("{what}: list reads"), list);
     }
-}
-
-fn random_duplicates(random: &mut Random) -> DuplicateKeyBehavior {
-    [TakeLast, Error][random.below(2)]
 }
 
 #[test]

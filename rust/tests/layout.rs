@@ -1,5 +1,10 @@
 //! The layout program: what it writes, and its exit status.
 
+mod common;
+
+use common::inputs::{fields_query, NAMES};
+use common::{reference_is_there, times, Random};
+use qs::{refusal, Config};
 use std::ffi::OsStr;
 use std::fs::File;
 use std::os::unix::ffi::OsStrExt;
@@ -14,19 +19,25 @@ fn layout(arguments: &[&[u8]]) -> Output {
         .expect("the layout program starts")
 }
 
-/// Status, standard output and standard error of a run whose words are text.
-fn run(arguments: &[&str]) -> (Option<i32>, String, String) {
+/// A run's status, standard output and standard error, which are text.
+type Written = (Option<i32>, String, String);
+
+fn written(output: Output) -> Written {
+    let text = |bytes| String::from_utf8(bytes).expect("what it writes is text");
+    (
+        output.status.code(),
+        text(output.stdout),
+        text(output.stderr),
+    )
+}
+
+/// What is written where the arguments are text.
+fn run(arguments: &[&str]) -> Written {
     let arguments: Vec<&[u8]> = arguments
         .iter()
         .map(|argument| argument.as_bytes())
         .collect();
-    let output = layout(&arguments);
-    let written = |bytes| String::from_utf8(bytes).expect("what it writes is text");
-    (
-        output.status.code(),
-        written(output.stdout),
-        written(output.stderr),
-    )
+    written(layout(&arguments))
 }
 
 const INPUT: &str = "title=Fog+at+dawn&h[]=10&h[]=9&w[1]=b&w[0]=a&x[y]=1&n&7=z&bad=%C3";
@@ -78,6 +89,143 @@ fn fields_that_cannot_be_read_are_told() {
         lines,
         "\"a\" = \"1\"\n\"a\" as a list: the text is not UTF-8 (21)\n"
     );
+}
+
+/// Sequences and maps of one and of several, at the edges of what is a text and what is a list.
+#[test]
+fn one_value_and_several() {
+    let cases = [
+        ("a[]=1", "\"a\" = \"1\"\n"),
+        ("a[]", "\"a\" = \"\"\n"),
+        ("a=", "\"a\" = \"\"\n"),
+        ("a=&a", "\"a\" = \"\"\n\"a\"[0] = \"\"\n\"a\"[1] = \"\"\n"),
+        ("a[0]=1", "\"a\"[0] = \"1\"\n"),
+        ("a[0]=x&a[0]=y", "\"a\"[0] = \"y\"\n"),
+    ];
+    for (input, lines) in cases {
+        let shown = (Some(0), lines.to_owned(), String::new());
+        assert_eq!(run(&[input, "a"]), shown, "{input}");
+    }
+    let cases = [
+        ("a[]=%C3", refusal::NOT_UTF8),
+        ("a=1&a=%C3", refusal::NOT_UTF8),
+        ("a[0]=%C3", refusal::NOT_UTF8),
+        ("a[0][b]=1", refusal::WRONG_KIND),
+        ("a[0]=1&a[b]=2", refusal::WRONG_KIND),
+        ("a[1]=1", refusal::MISSING_INDEX),
+        ("", refusal::NO_SUCH_FIELD),
+        ("=", refusal::NO_SUCH_FIELD),
+        ("&", refusal::WRONG_ROOT),
+    ];
+    for (input, number) in cases {
+        let told = format!("layout: \"a\": {}\n", meaning(number));
+        let shown = (Some(1), String::new(), told);
+        assert_eq!(run(&[input, "a"]), shown, "{input}");
+    }
+}
+
+/// A number as the program tells it.
+fn meaning(number: u32) -> String {
+    format!("{} ({number})", refusal::meaning(number))
+}
+
+/// Names of every sort at once: the lines stand in the order of the names, and then what can't be read, in that order too.
+#[test]
+fn a_mixture_of_names() {
+    let names = ["h", "title", "absent", "w", "x", "bad", "n", "h", "7"];
+    let arguments = [&[INPUT], &names[..]].concat();
+    let lines = [
+        "\"h\" = \"9\"",
+        "\"h\"[0] = \"10\"",
+        "\"h\"[1] = \"9\"",
+        "\"title\" = \"Fog at dawn\"",
+        "\"w\"[0] = \"a\"",
+        "\"w\"[1] = \"b\"",
+        "\"n\" = \"\"",
+        "\"h\" = \"9\"",
+        "\"h\"[0] = \"10\"",
+        "\"h\"[1] = \"9\"",
+    ];
+    let told = [
+        "layout: \"absent\": there is no such field (17)",
+        "layout: \"x\": the field is of another kind (18)",
+        "layout: \"bad\": the text is not UTF-8 (21)",
+        "layout: \"7\": there is no such field (17)",
+    ];
+    let written = |lines: &[&str]| lines.join("\n") + "\n";
+    assert_eq!(run(&arguments), (Some(1), written(&lines), written(&told)));
+}
+
+/// What the crate's reads of one field make of it: its text where it has one, and its elements where they are more than that one text;
+/// else why it can't be read.
+fn of_the_crate(input: &[u8], name: &str) -> Result<String, String> {
+    let Config { depth, form } = Config::default();
+    let text = serde_qs_reference::text(input, depth as usize, form, false, name);
+    let list = serde_qs_reference::list(input, depth as usize, form, false, name);
+    let quoted = |bytes: &[u8]| format!("{:?}", std::str::from_utf8(bytes).expect("a text"));
+    let mut lines = String::new();
+    match (&text, &list) {
+        (Ok(text), _) => lines += &format!("{name:?} = {}\n", quoted(text)),
+        (Err(refusal::WRONG_KIND), Err(number)) | (Err(number), Err(_)) => {
+            return Err(format!("layout: {name:?}: {}\n", meaning(*number)));
+        }
+        (Err(_), Ok(_)) => {}
+    }
+    match list {
+        Err(number) => lines += &format!("{name:?} as a list: {}\n", meaning(number)),
+        Ok(list) if text.is_ok() && list.len() == 1 => {}
+        Ok(list) => {
+            for (index, element) in list.iter().enumerate() {
+                lines += &format!("{name:?}[{index}] = {}\n", quoted(element));
+            }
+        }
+    }
+    Ok(lines)
+}
+
+/// The lines of each name one after another, and then what can't be read.
+fn each_of_the_crate(input: &[u8], names: &[&str]) -> Written {
+    let (mut lines, mut told) = (String::new(), String::new());
+    for name in names {
+        match of_the_crate(input, name) {
+            Ok(shown) => lines += &shown,
+            Err(why) => told += &why,
+        }
+    }
+    (Some(i32::from(!told.is_empty())), lines, told)
+}
+
+/// Many names of random tickets, each twice: what is written is what the crate's reads of each one alone make. A refused ticket is
+/// told as it is without names.
+#[test]
+fn many_names_are_shown_as_each_alone() {
+    if !reference_is_there() {
+        return;
+    }
+    let mut random = Random::new(51);
+    let (mut lines, mut told, mut refused) = (0, 0, 0);
+    for _ in 0..times(200) {
+        let pairs = 1 + random.below(8);
+        let mut input = fields_query(&mut random, pairs);
+        // which no argument has
+        input.retain(|&byte| byte != 0);
+        let mut names = NAMES.repeat(2);
+        random.shuffle(&mut names);
+        let of_names = names.iter().map(|name| name.as_bytes());
+        let arguments: Vec<&[u8]> = [&input[..]].into_iter().chain(of_names).collect();
+        let got = written(layout(&arguments));
+        if got.2.starts_with("layout: refused: ") {
+            assert_eq!(got, written(layout(&[&input])));
+            refused += 1;
+            continue;
+        }
+        let expected = each_of_the_crate(&input, &names);
+        assert_eq!(got, expected, "{}", input.escape_ascii());
+        lines += got.1.lines().count();
+        told += got.2.lines().count();
+    }
+    println!("{lines} lines, {told} fields that can't be read, {refused} refused tickets");
+    assert!(lines > 0 && told > 0 && refused > 0);
 }
 
 #[test]
@@ -150,7 +298,7 @@ fn a_refused_input_is_marked() {
     }
     let long = "a".repeat(qs::Config::MAX_LEN + 1);
     let told = "layout: refused: the ticket is longer than 65,535 bytes (2)\n";
-    for arguments in [&[&long[..]][..], &["--sheet", &long]] {
+    for arguments in [&[&long[..]][..], &[&long, "a", "b"], &["--sheet", &long]] {
         assert_eq!(run(arguments), (Some(1), String::new(), told.into()));
     }
     for arguments in [&[&b"\x1b\xFF["[..]][..], &[b"--sheet", b"\x1b\xFF["]] {

@@ -1,6 +1,6 @@
-//! The numbers that stand in more than one place are the same in each: a record's row, the limits and a sheet's line, which the model
-//! has for itself, the refusals and their wording, and where the fields of an answer lie for C. Those of include/qs.h are compared in
-//! tests/c.rs.
+//! The numbers that stand in more than one place are the same in each: a record's row, the limits, a sheet's line and an answer's
+//! words, which the model has for itself, the refusals and their wording, and where the fields of an answer lie for C. Those of
+//! include/qs.h are compared in tests/c.rs.
 
 use qs::{refusal, row, Config, FieldRead, Reading};
 use std::collections::BTreeSet;
@@ -35,12 +35,13 @@ fn the_model_has_the_same_limits() {
 }
 
 #[test]
-fn the_model_has_the_same_line() {
+fn the_model_has_the_same_line_and_answer() {
     assert_eq!(qs::SHEET_LINE, model::SHEET_LINE);
+    assert_eq!(qs::ANSWER_WORDS, model::ANSWER_WORDS);
 }
 
-/// The numbers go up from 0 without a gap, each with a wording of its own; the refusals are a reading's, a field's and then a
-/// sheet's.
+/// The numbers go up from 0 without a gap, each with a wording of its own; the refusals are a reading's, a field's, a sheet's and then
+/// names'.
 #[test]
 fn every_refusal_has_its_wording() {
     let count = refusal::ALL.len() as u32;
@@ -50,7 +51,8 @@ fn every_refusal_has_its_wording() {
     assert_eq!(meanings.len() as u32, count + 1);
     let refusals = refusal::OF_A_READING
         .chain(refusal::OF_A_FIELD)
-        .chain(refusal::OF_A_SHEET);
+        .chain(refusal::OF_A_SHEET)
+        .chain(refusal::OF_NAMES);
     assert!(refusals.eq(1..count));
 }
 

@@ -5,32 +5,22 @@ mod common;
 
 use common::inputs::{long_query, query, BYTES};
 use common::{
-    every_string, outcome, random_config, reference_is_there, settings, times, tree, Random,
+    every_string, lent, parsed, random_config, reference_is_there, settings, times, tree, Numbers,
+    Random,
 };
 use qs::row::{self, WIDTH};
 use qs::{refusal, Config};
 
-/// What the buffers hold before a reading.
-const BEFORE: u8 = 7;
-
-/// A reading with so many words and bytes lent, and what it leaves.
-fn parse(config: Config, input: &[u8], words: usize, bytes: usize) -> model::Outcome {
-    let mut words = vec![BEFORE.into(); words];
-    let mut text = vec![BEFORE; bytes];
-    let reading = qs::parse(config, input, &mut words, &mut text);
-    outcome(reading, words, text)
-}
-
 /// How often each number was answered.
 #[derive(Default)]
-struct Counts([usize; refusal::TOO_LITTLE_TEXT as usize + 1]);
+struct Counts(Numbers);
 
 impl Counts {
     /// In buffers that always suffice: the crate's tree, or its refusal and place.
     fn with_the_crate(&mut self, config: Config, input: &[u8]) {
         let (words, bytes) = qs::room(input.len());
-        let outcome = parse(config, input, words, bytes);
-        self.0[outcome.number as usize] += 1;
+        let outcome = parsed(config, input, words, bytes);
+        self.0.count(outcome.number);
         let expected = serde_qs_reference::parse(input, config.depth as usize, config.form);
         let got = match outcome.number {
             refusal::ACCEPTED => Ok(tree(&outcome.words, &outcome.text)),
@@ -41,14 +31,10 @@ impl Counts {
 
     /// With any buffers: everything that the model says.
     fn with_the_model(&mut self, config: Config, input: &[u8], words: usize, bytes: usize) {
-        let outcome = parse(config, input, words, bytes);
-        self.0[outcome.number as usize] += 1;
-        let expected = model::read(
-            settings(config),
-            input,
-            &vec![BEFORE.into(); words],
-            &vec![BEFORE; bytes],
-        );
+        let outcome = parsed(config, input, words, bytes);
+        self.0.count(outcome.number);
+        let (before, text) = lent(words, bytes);
+        let expected = model::read(settings(config), input, &before, &text);
         assert_eq!(
             outcome,
             expected,
@@ -57,11 +43,8 @@ impl Counts {
         );
     }
 
-    fn report(&self, what: &str, numbers: &[usize]) {
-        println!("{what}: answers 0 to 15 came {:?} times", self.0);
-        for &number in numbers {
-            assert!(self.0[number] > 0, "{what} had no answer {number}");
-        }
+    fn report(&self, what: &str, numbers: &[u32]) {
+        self.0.report(what, numbers);
     }
 }
 
@@ -148,7 +131,7 @@ fn random_buffers() {
         let (words, bytes) = qs::room(input.len());
         counts.with_the_model(config, &input, words, bytes);
     }
-    let all: Vec<usize> = (0..16).filter(|number| ![1, 2].contains(number)).collect();
+    let all: Vec<u32> = (0..16).filter(|number| ![1, 2].contains(number)).collect();
     counts.report("random inputs in random buffers", &all);
 }
 
@@ -187,7 +170,7 @@ fn limits() {
 fn named_cases() {
     let usual = Config::default();
     let answer = |config, input: &str, records: usize, bytes| {
-        let outcome = parse(config, input.as_bytes(), records * WIDTH, bytes);
+        let outcome = parsed(config, input.as_bytes(), records * WIDTH, bytes);
         (
             outcome.number,
             outcome.place,
@@ -198,22 +181,21 @@ fn named_cases() {
     assert_eq!(answer(usual, "&&a", 4, 3), (0, 0, 2, 1));
     assert_eq!(answer(usual, "ab&%61b", 8, 2), (0, 0, 4, 2));
     assert_eq!(answer(usual, "a&a", 3, 2), (14, 4, 0, 0));
-    assert_eq!(parse(usual, b"a&a", 4 * WIDTH, 2).text, [b'a', 0]);
+    assert_eq!(parsed(usual, b"a&a", 4 * WIDTH, 2).text, [b'a', 0]);
     assert_eq!(answer(usual, "a&a", 4, 2), (0, 0, 4, 1));
     // spare words make no record, and are cleared
     let one_and_spare = 2 * WIDTH - 1;
-    let spare = parse(usual, b"", one_and_spare, 0);
+    let spare = parsed(usual, b"", one_and_spare, 0);
     assert_eq!((spare.number, spare.records), (0, 1));
     let mut root = vec![0; one_and_spare];
     root[row::KIND] = row::NO_VALUE;
     assert_eq!(spare.words, root);
-    let spare = parse(usual, b"a", one_and_spare, 1);
+    let spare = parsed(usual, b"a", one_and_spare, 1);
     assert_eq!((spare.number, spare.place), (14, 2));
     assert_eq!((spare.records, spare.bytes), (0, 0));
-    let few = parse(usual, b"a", WIDTH - 1, 1);
+    let few = parsed(usual, b"a", WIDTH - 1, 1);
     assert_eq!((few.number, few.place), (3, 0));
-    let untouched = (vec![BEFORE.into(); WIDTH - 1], vec![BEFORE]);
-    assert_eq!((few.words, few.text), untouched);
+    assert_eq!((few.words, few.text), lent(WIDTH - 1, 1));
     let longest = "&".repeat(Config::MAX_LEN);
     assert_eq!(answer(usual, &longest, 1, 0), (0, 0, 1, 0));
     assert_eq!(answer(usual, &(longest + "&"), 1, 0), (2, 0, 0, 0));

@@ -7,13 +7,12 @@ mod common;
 use common::inputs::{fields_query, long_query, query, BYTES};
 use common::kinds::{Kind, HARD, USUAL};
 use common::mixtures::mixture;
-use common::{every_string, outcome, random_config, settings, times, Random};
+use common::{
+    every_string, lent, outcome, parsed, random_config, settings, times, Numbers, Random,
+};
 use model::SheetOutcome;
 use qs::row::{self, WIDTH};
 use qs::{refusal, Config, SHEET_LINE};
-
-/// What records and text hold before a sheet.
-const BEFORE: u8 = 7;
 
 /// What a page holds before: bytes that no sheet has, and not the same at the start of any two lines that are near each other.
 fn page_before(length: usize) -> Vec<u8> {
@@ -37,11 +36,8 @@ impl Sizes {
     }
 
     fn buffers(self) -> (Vec<u32>, Vec<u8>, Vec<u8>) {
-        (
-            vec![BEFORE.into(); self.words],
-            vec![BEFORE; self.bytes],
-            page_before(self.page),
-        )
+        let (words, text) = lent(self.words, self.bytes);
+        (words, text, page_before(self.page))
     }
 }
 
@@ -55,17 +51,10 @@ fn sheet(config: Config, input: &[u8], sizes: Sizes) -> SheetOutcome {
     }
 }
 
-/// What a reading with the same buffers answers and leaves.
-fn parse(config: Config, input: &[u8], sizes: Sizes) -> model::Outcome {
-    let (mut words, mut text, _) = sizes.buffers();
-    let reading = qs::parse(config, input, &mut words, &mut text);
-    outcome(reading, words, text)
-}
-
 /// How often each number was answered, and how many lines were compared.
 #[derive(Default)]
 struct Counts {
-    numbers: [usize; refusal::ALL.len()],
+    numbers: Numbers,
     lines: usize,
 }
 
@@ -78,13 +67,13 @@ impl Counts {
         };
         let got = sheet(config, input, sizes);
         let number = got.reading.number;
-        self.numbers[number as usize] += 1;
+        self.numbers.count(number);
         let (words, text, page) = sizes.buffers();
         let expected = model::sheet(settings(config), input, &words, &text, &page);
         let same = got.reading == expected.reading;
         assert!(same, "not the model's reading: {}", described());
         same_page(&got.page, &expected.page, described);
-        let mut reading = parse(config, input, sizes);
+        let mut reading = parsed(config, input, sizes.words, sizes.bytes);
         if refusal::OF_A_SHEET.contains(&number) {
             assert_eq!(reading.number, refusal::ACCEPTED, "{}", described());
             reading.number = number;
@@ -121,14 +110,9 @@ impl Counts {
         got
     }
 
-    fn report(&self, what: &str, numbers: &[usize]) {
-        println!(
-            "{what}: {} lines, answers 0, 1, … came {:?} times",
-            self.lines, self.numbers
-        );
-        for &number in numbers {
-            assert!(self.numbers[number] > 0, "{what} had no answer {number}");
-        }
+    fn report(&self, what: &str, numbers: &[u32]) {
+        let what = format!("{what}, {} lines,", self.lines);
+        self.numbers.report(&what, numbers);
     }
 }
 
@@ -343,7 +327,7 @@ fn random_buffers() {
         };
         counts.compare(config, &input, sizes);
     }
-    let all: Vec<usize> = (3..16).chain([0, 23]).collect();
+    let all: Vec<u32> = (3..16).chain([0, 23]).collect();
     counts.report("random inputs in random buffers", &all);
 }
 

@@ -22,10 +22,13 @@ use Rattle.de.specs.declared.FieldRead.{FieldRead}
 use Rattle.fields.specs.declared.text.TextRead.{TextRead}
 use Rattle.fields.specs.declared.list.ListRead.{ListRead}
 use Rattle.fields.specs.Fields.{rootField}
-use Rattle.fields.specs.Texts.{textOfField}
+use Rattle.fields.specs.Texts.{textOfField, textNamed}
 use Rattle.fields.specs.Lists.{ListResult, listOfField}
 use Rattle.de.specs.Reads.{TextOutcome, ListOutcome, leaving, unread, textAnswer, textAfter, textRead, listOutcome, listAfter, leftIn, unlisted, listRead}
 use Rattle.de.specs.ListReads.{elementCount, listReadAnswer, leftBy}
+use Rattle.de.specs.FieldsReads.{FieldsOutcome, unanswered, fieldsAfter}
+use Rattle.lookups.specs.Answers.{answersOf, over}
+use Rattle.lookups.proofs.Each.{answers-same}
 use Rattle.fields.specs.OnRecords.{Readable, fieldAt, fieldTextAt, fieldListAt, Writes, wrote, stopped}
 use Rattle.de.proofs.Stored.{left, filled, stores, readable, some-record}
 use Rattle.fields.proofs.Agree.{At, field-agrees, field-text, field-list}
@@ -119,6 +122,22 @@ module _ (config : Config) (input words text W X : List ℕ) (p : Parsed) {readi
         go o (wrote h) = rw h
         go o (stopped h) = rw h
 
+    pub fields-accepted : (d : DuplicateKeyBehavior) (names : List (List ℕ)) (answers : List ℕ) {l : List ℕ}
+        → l ≡ over (answersOf (λ name. fieldTextAt d W X (fieldAt W X name)) names) answers
+        → _≡_ {A = FieldsOutcome} (record { reading = record { answer = reading; words = W; text = X }; answers = l })
+        (after (read config input words text) (fieldsAfter d names answers) (unanswered answers))
+    fields-accepted d names answers f =
+        rw f
+        (by
+        (λ r y. _≡_ {A = FieldsOutcome}
+        (record { reading = y; answers = over (answersOf (λ name. fieldTextAt d (y .words) (y .text) (fieldAt (y .words) (y .text) name)) names) answers })
+        (after r (fieldsAfter d names answers) (unanswered answers)))
+        (λ v u s.
+        let o = outcome (length words) (length text) (accepted v u) in
+        ap (λ (ws : List ℕ). record { reading = o; answers = over ws answers })
+        (answers-same (λ name. fieldTextAt d (o .words) (o .text) (fieldAt (o .words) (o .text) name)) (λ name. textNamed d name (v .value))
+        (text-found words text s d) names)))
+
   -- It refuses.
   module _ (z : reading .number ≢ 0) where
     by-none : (P : Read → Outcome → Type 0) → ((o : Outcome) → P (met o) o)
@@ -142,3 +161,8 @@ module _ (config : Config) (input words text W X : List ℕ) (p : Parsed) {readi
         (by-none
         (λ r y. unlisted list y
         ≡ after r (listAfter d name (length list)) (unlisted list)) (λ o. refl))
+
+    pub fields-refused : (d : DuplicateKeyBehavior) (names : List (List ℕ)) (answers : List ℕ)
+        → _≡_ {A = FieldsOutcome} (record { reading = record { answer = reading; words = W; text = X }; answers = answers })
+        (after (read config input words text) (fieldsAfter d names answers) (unanswered answers))
+    fields-refused d names answers = by-none (λ r y. unanswered answers y ≡ after r (fieldsAfter d names answers) (unanswered answers)) (λ o. refl)

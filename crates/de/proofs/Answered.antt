@@ -1,6 +1,6 @@
 -- Every text that is answered lies in the used text and is UTF-8.
 use Prim.Native.Nat.{ℕ, zero, suc, _+_, _*_, _-_, _<_, _≤_}
-use mathlib.Core.Path.{_≡_, sym, _∙_}
+use mathlib.Core.Path.{_≡_, ap, sym, _∙_, subst}
 use mathlib.Core.List.{List, [], _∷_, _++_}
 use native.Mathlib.Omega.{arith}
 use lib.Dec.{ltb}
@@ -26,8 +26,10 @@ use Rattle.fields.specs.declared.text.TextRead.the-variants.{Text, Refused}
 use Rattle.fields.specs.Fields.{Field, found, isNamed, named, rootField}
 use Rattle.fields.specs.Texts.{singleText, lastText, several, textOf, textOfField}
 use Rattle.fields.specs.Lists.{ListResult, listed, prepend, isNext, elementText, inTurn, childCount, elements, intKeys, listOf, listOfField}
-use Rattle.de.specs.Reads.{leaving, unread, textAnswer, textAfter, textRead, listAnswer, listOutcome, listAfter, unlisted, listRead}
-use Rattle.de.specs.Answered.{ValidText, TextAnswered, ValidElements, ListAnswered}
+use Rattle.lookups.specs.Each.{nameOf}
+use Rattle.de.specs.Reads.{TextOutcome, leaving, unread, textAnswer, textAfter, textRead, listAnswer, listOutcome, listAfter, unlisted, listRead}
+use Rattle.de.specs.Answered.{ValidText, TextAnswered, ValidElements, ListAnswered, FieldsAnswered}
+use Rattle.de.proofs.SingleReads.{single-reads}
 use Rattle.de.proofs.Stored.{lies-le}
 use Rattle.parse.proofs.Went.{Went, accepting, refusing, went}
 
@@ -173,3 +175,11 @@ list-answered config d input name words text list = go (went config input words 
         answered-list words text s (length list) (listOfField d (length list) (rootField name (v .value)))
         (field-list-valid (u .text) zs d (length list) (rootField name (v .value)) (field-laid (u .text) zs name (v .value) (s .held .texts))) e
     go (refusing x h) e = absurd (code-some x (sym h ∙ e))
+
+-- Each answer of many is that of a text read.
+pub fields-answered : FieldsAnswered
+fields-answered asked words text answers z i l e =
+    let same = (single-reads asked words text answers) .each z i l in
+    subst (λ (y : TextOutcome). ValidText y (y .answer .offset) (y .answer .len)) (sym same)
+    (text-answered (asked .config) (asked .duplicates) (asked .input) (nameOf (asked .names) (asked .ends) i) words text
+    (sym (ap (λ (y : TextOutcome). y .answer .reading .number) same) ∙ e))

@@ -1,4 +1,4 @@
--- Field reads with what document 01 says of each, gathered as two lists and decided together (proofs/Examples). Lent
+-- Field reads with what documents 01 and 02 say of each, gathered as lists and decided together (proofs/Examples). Lent
 -- are 6 records and 12 bytes of text; before, every element is 7.
 use Prim.Native.Nat.{ℕ}
 use Prim.Native.String.{String}
@@ -7,11 +7,13 @@ use mathlib.Core.List.{List, [], _∷_, map}
 use Rattle.config.specs.declared.Config.{Config}
 use Rattle.config.specs.Defaults.{defaults}
 use Rattle.ascii.specs.Texts.{ascii}
+use Rattle.reading.specs.declared.Reading.{Reading}
 use Rattle.reading.specs.Tests.{atDepth, records as wordsOf, before}
 use Rattle.fields.specs.declared.DuplicateKeyBehavior.{DuplicateKeyBehavior}
 use Rattle.fields.specs.declared.DuplicateKeyBehavior.the-variants.{TakeLast, Error}
 use Rattle.de.specs.declared.FieldRead.{FieldRead}
 use Rattle.de.specs.Reads.{textRead, listRead}
+use Rattle.de.specs.FieldsReads.{Asked, FieldsOutcome, fieldsRead}
 
 -- Number, place, records, bytes, offset and length.
 abbrev pub answer : ℕ → ℕ → ℕ → ℕ → ℕ → ℕ → FieldRead
@@ -135,3 +137,89 @@ ListTestsPass =
     (before (t .size)) in
     (o .read .answer, o .list)) listTests
     ≡ map (λ t. t .expects) listTests
+
+-- What is asked, with how many words are lent for the answers; the call's own answer, and the answer words.
+pub record FieldsTest : Type 0 where
+  pub asked : Asked
+  pub size : ℕ
+  pub expects : Reading × List ℕ
+
+-- The fields of names that are laid end to end, with the end of each.
+abbrev pub ask : Config → DuplicateKeyBehavior → String → String → List ℕ → Asked
+ask config duplicates input names ends =
+    record { config = config; duplicates = duplicates; input = ascii input; names = ascii names; ends = ends }
+
+-- Number, place, records and bytes.
+abbrev pub reads : ℕ → ℕ → ℕ → ℕ → Reading
+reads number place records bytes = record { number = number; place = place; records = records; bytes = bytes }
+
+abbrev pub fieldsTest : DuplicateKeyBehavior → String → String → List ℕ → ℕ → Reading → List ℕ → FieldsTest
+fieldsTest duplicates input names ends size call answers =
+    record { asked = ask defaults duplicates input names ends; size = size; expects = (call, answers) }
+
+-- The answer words stay as they were.
+abbrev pub unansweredTest : Config → String → String → List ℕ → ℕ → Reading → FieldsTest
+unansweredTest config input names ends size call =
+    record { asked = ask config TakeLast input names ends; size = size; expects = (call, before size) }
+
+abbrev pub fieldsTests : List FieldsTest
+fieldsTests =
+    -- in the caller's order
+    fieldsTest TakeLast "a=1&b=2" "ba" (1 ∷ 2 ∷ []) 6 (reads 0 0 3 4) (0 ∷ 3 ∷ 1 ∷ 0 ∷ 1 ∷ 1 ∷ []) ∷
+    -- a name again, one that is absent, and words past the last answer
+    fieldsTest TakeLast "a=12" "aab" (1 ∷ 2 ∷ 3 ∷ []) 11 (reads 0 0 2 3)
+    (0 ∷ 1 ∷ 2 ∷ 0 ∷ 1 ∷ 2 ∷ 17 ∷ 0 ∷ 0 ∷ 7 ∷ 7 ∷ []) ∷
+    -- equal ends are an empty name, the first of which starts at 0
+    fieldsTest TakeLast "=x" "y" (0 ∷ 0 ∷ 1 ∷ []) 9 (reads 0 0 1 1) (0 ∷ 0 ∷ 1 ∷ 0 ∷ 0 ∷ 1 ∷ 17 ∷ 0 ∷ 0 ∷ []) ∷
+    -- the last end need not be the names' length
+    fieldsTest TakeLast "a=1" "abc" (1 ∷ []) 3 (reads 0 0 2 2) (0 ∷ 1 ∷ 1 ∷ []) ∷
+    -- 21, 19 and 17 stand in the answers alone
+    fieldsTest Error "a=%ff&b=1&b=2" "abc" (1 ∷ 2 ∷ 3 ∷ []) 9 (reads 0 0 5 5)
+    (21 ∷ 0 ∷ 0 ∷ 19 ∷ 0 ∷ 0 ∷ 17 ∷ 0 ∷ 0 ∷ []) ∷
+    -- of several values the last
+    fieldsTest TakeLast "b=1&b=2" "b" (1 ∷ []) 3 (reads 0 0 4 3) (0 ∷ 2 ∷ 1 ∷ []) ∷
+    fieldsTest TakeLast "a[b]=1" "a" (1 ∷ []) 3 (reads 0 0 3 3) (18 ∷ 0 ∷ 0 ∷ []) ∷
+    fieldsTest TakeLast "&&" "a" (1 ∷ []) 3 (reads 0 0 1 0) (16 ∷ 0 ∷ 0 ∷ []) ∷
+    -- an empty list reads the input
+    unansweredTest defaults "a=1" "xyz" [] 2 (reads 0 0 2 2) ∷
+    unansweredTest defaults "a[" "" [] 0 (reads 4 3 0 0) ∷
+    -- the reading's refusals
+    unansweredTest (atDepth 65) "a=1" "a" (1 ∷ []) 3 (reads 1 0 0 0) ∷
+    unansweredTest defaults "a[" "a" (1 ∷ []) 3 (reads 4 3 0 0) ∷
+    unansweredTest defaults "a&b&c&d&e&f" "a" (1 ∷ []) 4 (reads 14 12 0 0) ∷
+    []
+
+-- Refused by 24 and 25: as above, with all that is lent as it was.
+abbrev pub unaskedTests : List FieldsTest
+unaskedTests =
+    -- an end that falls, and one that passes the names, also where the later ones don't
+    unansweredTest defaults "a=1" "ab" (2 ∷ 1 ∷ []) 6 (reads 24 0 0 0) ∷
+    unansweredTest defaults "a=1" "ab" (1 ∷ 3 ∷ []) 6 (reads 24 0 0 0) ∷
+    unansweredTest defaults "a=1" "ab" (1 ∷ 0 ∷ 2 ∷ []) 9 (reads 24 0 0 0) ∷
+    unansweredTest defaults "a=1" "" (1 ∷ []) 3 (reads 24 0 0 0) ∷
+    -- one word less than three a name
+    unansweredTest defaults "a=1" "ab" (1 ∷ 2 ∷ []) 5 (reads 25 0 0 0) ∷
+    unansweredTest defaults "a=1" "" (0 ∷ []) 0 (reads 25 0 0 0) ∷
+    -- 24 before 25, and both before the reading's own
+    unansweredTest defaults "a=1" "ab" (2 ∷ 1 ∷ []) 5 (reads 24 0 0 0) ∷
+    unansweredTest (atDepth 65) "a=1" "a" (2 ∷ []) 3 (reads 24 0 0 0) ∷
+    unansweredTest (atDepth 65) "a=1" "a" (1 ∷ []) 2 (reads 25 0 0 0) ∷
+    []
+
+-- What the call gives.
+abbrev pub fieldsOf : FieldsTest → FieldsOutcome
+fieldsOf t = fieldsRead (t .asked) (before (wordsOf 6)) (before 12) (before (t .size))
+
+abbrev pub FieldsTestsPass : Type 0
+FieldsTestsPass =
+    map (λ t. ((fieldsOf t) .reading .answer, (fieldsOf t) .answers)) fieldsTests ≡ map (λ t. t .expects) fieldsTests
+
+abbrev pub untouched : FieldsTest → FieldsOutcome
+untouched t =
+    record {
+      reading = record { answer = t .expects .0; words = before (wordsOf 6); text = before 12 };
+      answers = before (t .size);
+    }
+
+abbrev pub UnaskedTestsPass : Type 0
+UnaskedTestsPass = map fieldsOf unaskedTests ≡ map untouched unaskedTests

@@ -17,7 +17,7 @@ use Rattle.de.specs.declared.FieldRead.{FieldRead}
 use Rattle.fields.specs.declared.text.TextRead.{TextRead}
 use Rattle.fields.specs.declared.text.TextRead.the-variants.{Text, Refused}
 use Rattle.fields.specs.Fields.{rootField}
-use Rattle.fields.specs.Texts.{textOfField}
+use Rattle.fields.specs.Texts.{textNamed}
 use Rattle.fields.specs.Lists.{ListResult, listed, refused, listOfField}
 
 -- What a call answers, with what the words and the text hold then.
@@ -47,7 +47,7 @@ textAnswer reading (Refused x) = refusedAnswer reading x
 -- "After a reading accepts, the call looks for a root name": the text of its field, in the tree that was made.
 abbrev pub textAfter : DuplicateKeyBehavior → List ℕ → Node → Outcome → TextOutcome
 textAfter duplicates name tree o =
-    leaving o (textAnswer (o .answer) (textOfField duplicates (rootField name (tree .value))))
+    leaving o (textAnswer (o .answer) (textNamed duplicates name (tree .value)))
 
 -- `deserialize_str` of the field of a name.
 unfoldable pub textRead : Config → DuplicateKeyBehavior → List ℕ → List ℕ → List ℕ → List ℕ → TextOutcome

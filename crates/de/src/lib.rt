@@ -1,11 +1,15 @@
 // Field reads: a reading, then the field of a name in the root as a text or as a list; `deserialize_str` and
-// `deserialize_seq` of the source's src/de.rs. What is promised stands in specs/Reads, and of the texts that are
-// answered in specs/Answered.
-// Below it stand the reader (parse), the fields of a tree (fields), clearing and the definitions (reading).
+// `deserialize_seq` of the source's src/de.rs; and the fields of many names after one reading. What is promised stands
+// in specs/Reads and specs/FieldsReads; of the texts that are answered in specs/Answered; and that one reading answers
+// what many do, in specs/SingleReads.
+// Below it stand the reader (parse), the fields of a tree (fields), the answers of many names (lookups), clearing and
+// the definitions (reading).
 ghost use mathlib.Core.Path.{_≡_};
 ghost use Prim.Native.Nat.{_≤_};
 ghost use Rattle.de.specs.Reads.{refusedAnswer, textAnswer, textRead, leftIn, listRead};
 ghost use Rattle.de.specs.ListReads.{elementCount, listReadAnswer, leftBy};
+ghost use Rattle.de.specs.FieldsReads.{fieldsRead};
+ghost use Rattle.reading.specs.Reading.{refuses};
 use clearing::clear_words;
 use config::Config;
 use fields::DuplicateKeyBehavior;
@@ -13,6 +17,9 @@ use fields::list;
 use fields::list::ListRead;
 use fields::text;
 use fields::text::TextRead;
+use lookups::answers;
+use lookups::names;
+use parse::Parsed;
 use reading::Reading;
 use refusals::Refusal;
 
@@ -143,4 +150,51 @@ pub fn deserialize_seq(
     let read = list::field_list(words, text, name, duplicates, list);
     clear_refused(read, list);
     list_answer(reading, read)
+}
+
+// The answer where the list of names or the answer words are refused, before anything is read.
+fn unasked(refusal: Refusal) -> Reading
+    ensures { λ r. ⌜ r ≡ refuses refusal 0 ⌝ }
+{
+    Parsed::Refused(refusal, 0).answer()
+}
+
+// Reads the input into the lent words and text, once, and the field of each name in its root as a text, whose number,
+// offset and length are written to the lent words for answers. Of a list of no names it reads the input alone. Words
+// and text are as the reading leaves them. What stands past the last answer stays, and all answer words do where the
+// reading or what is asked is refused.
+pub fn deserialize_fields(
+    input: &[u8],
+    names: &[u8],
+    ends: &[u32],
+    config: Config,
+    duplicates: DuplicateKeyBehavior,
+    words: &mut [u32],
+    text: &mut [u8],
+    answers: &mut [u32],
+) -> Reading
+    ensures { λ r. ⌜ record {
+      reading = record { answer = r; words = now (words .exit); text = now (text .exit) };
+      answers = now (answers .exit);
+    }
+        ≡ fieldsRead (record {
+          config = config;
+          duplicates = duplicates;
+          input = now (input .entry);
+          names = now (names .entry);
+          ends = now (ends .entry);
+        }) (now (words .entry)) (now (text .entry)) (now (answers .entry)) ⌝ }
+{
+    if !names::ends_fit(ends, names.len()) {
+        return unasked(Refusal::WrongEnds);
+    }
+    if answers.len() / answers::WIDTH < ends.len() {
+        return unasked(Refusal::ShortAnswers);
+    }
+    let reading = parse::parse(input, config, words, text).answer();
+    if reading.number != 0 {
+        return reading;
+    }
+    answers::answer_names(words, text, names, ends, duplicates, answers);
+    reading
 }

@@ -1,5 +1,7 @@
 -- Document 01, 'Field reads': "Text (`deserialize_str`)".
+use Prim.Native.Nat.{ℕ}
 use mathlib.Core.Bool.{Bool, true, false, cond}
+use mathlib.Core.List.{List}
 use lib.ListN.{length}
 use Rattle.utf8.specs.Test.{utf8}
 use Rattle.reading.specs.Values.{Value, uninitialized, null, noValue, string, map, sequence, Forest, none, child}
@@ -8,7 +10,7 @@ use Rattle.fields.specs.declared.DuplicateKeyBehavior.the-variants.{Take
 use Rattle.refusals.specs.declared.Refusal.the-variants.{WrongKind, SeveralValues, NotUtf8}
 use Rattle.fields.specs.declared.text.TextRead.{TextRead}
 use Rattle.fields.specs.declared.text.TextRead.the-variants.{Text, Refused}
-use Rattle.fields.specs.Fields.{Field, found, refused}
+use Rattle.fields.specs.Fields.{Field, found, refused, rootField}
 
 -- A value that is no Sequence: "String, offset and length in text; Null or NoValue, empty (0, 0)"; 18 for another
 -- kind, 21 for bytes that are not UTF-8.
@@ -46,3 +48,7 @@ textOf duplicates (sequence children) =
 abbrev pub textOfField : DuplicateKeyBehavior → Field → TextRead
 textOfField duplicates (found value) = textOf duplicates value
 textOfField duplicates (refused x) = Refused x
+
+-- The text of the field of a name in the root.
+abbrev pub textNamed : DuplicateKeyBehavior → List ℕ → Value → TextRead
+textNamed duplicates name root = textOfField duplicates (rootField name root)

@@ -1,4 +1,4 @@
--- The arguments of `qs_parse`, `qs_text` and `qs_list` as the definitions have them.
+-- The arguments of the readings, depth, flag and duplicates, as the definitions have them.
 use Prim.Native.Nat.{ℕ}
 use mathlib.Core.Bool.{cond, not}
 use lib.Dec.{eqb}

@@ -8,6 +8,7 @@ ghost use Rattle.decode.specs.Decoding.{answer, written};
 ghost use Rattle.utf8.specs.Test.{utf8};
 ghost use Rattle.reading.specs.Reading.{reading};
 ghost use Rattle.de.specs.Reads.{textRead, listRead};
+ghost use Rattle.de.specs.FieldsReads.{fieldsRead};
 ghost use Rattle.print.specs.Printing.{printing};
 ghost use Rattle.qs.specs.Numbers.{lengthOrNo, oneOrZero, OneForUtf8};
 ghost use Rattle.qs.specs.Arguments.{settings, behavior};
@@ -117,6 +118,38 @@ pub extern "C" fn qs_list(
     let config = settings(depth, form);
     let duplicates = behavior(duplicates);
     de::deserialize_seq(input, name, config, duplicates, words, text, list)
+}
+
+// Reads `input` as `qs_parse` does, once, and then the root's field of each name as a text. The names lie end to end in
+// `names`, and `ends` has the end of each. Each answer is three words of `answers`: number, offset and length; the rest
+// of `answers` stays as it was, and all of it does where the call's own number isn't 0.
+#[no_mangle]
+pub extern "C" fn qs_fields(
+    depth: u32,
+    form: u32,
+    duplicates: u32,
+    input: &[u8],
+    names: &[u8],
+    ends: &[u32],
+    words: &mut [u32],
+    text: &mut [u8],
+    answers: &mut [u32],
+) -> Reading
+    ensures { λ r. ⌜ record {
+      reading = record { answer = r; words = now (words .exit); text = now (text .exit) };
+      answers = now (answers .exit);
+    }
+        ≡ fieldsRead (record {
+          config = settings depth form;
+          duplicates = behavior duplicates;
+          input = now (input .entry);
+          names = now (names .entry);
+          ends = now (ends .entry);
+        }) (now (words .entry)) (now (text .entry)) (now (answers .entry)) ⌝ }
+{
+    let config = settings(depth, form);
+    let duplicates = behavior(duplicates);
+    de::deserialize_fields(input, names, ends, config, duplicates, words, text, answers)
 }
 
 // Reads `input` as `qs_parse` does, and then writes the sheet of its tree into `page`, 73 bytes a value, with the rest

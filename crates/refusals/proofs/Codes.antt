@@ -6,7 +6,8 @@ use Rattle.refusals.specs.declared.Refusal.the-variants.{TooDeep, TooLon
 use Rattle.refusals.specs.declared.Refusal.the-variants.{EndBeforeClosing, SequenceOnMap, SequenceOnSingle, MapOnSequence}
 use Rattle.refusals.specs.declared.Refusal.the-variants.{MapOnString, MapOnNull, ByteAfterKey, OpeningAfterBrackets}
 use Rattle.refusals.specs.declared.Refusal.the-variants.{ByteAfterBrackets, TooFewRecords, TooLittleText}
-use Rattle.refusals.specs.declared.Refusal.the-variants.{WrongRoot, NoSuchField, WrongKind, SeveralValues, MissingIndex, NotUtf8, ShortSlice, ShortPage}
+use Rattle.refusals.specs.declared.Refusal.the-variants.{WrongRoot, NoSuchField, WrongKind, SeveralValues, MissingIndex, NotUtf8}
+use Rattle.refusals.specs.declared.Refusal.the-variants.{ShortSlice, ShortPage, WrongEnds, ShortAnswers}
 use Rattle.refusals.specs.Codes.{code}
 
 -- No refusal has the number 0.
@@ -34,3 +35,5 @@ code-some MissingIndex e = omega arith
 code-some NotUtf8 e = omega arith
 code-some ShortSlice e = omega arith
 code-some ShortPage e = omega arith
+code-some WrongEnds e = omega arith
+code-some ShortAnswers e = omega arith

@@ -9,7 +9,7 @@ use Rattle.refusals.specs.declared.Refusal.the-variants.{ByteAfterKey, O
 use Rattle.refusals.specs.declared.Refusal.the-variants.{TooFewRecords, TooLittleText}
 use Rattle.refusals.specs.declared.Refusal.the-variants.{WrongRoot, NoSuchField, WrongKind}
 use Rattle.refusals.specs.declared.Refusal.the-variants.{SeveralValues, MissingIndex, NotUtf8, ShortSlice}
-use Rattle.refusals.specs.declared.Refusal.the-variants.{ShortPage}
+use Rattle.refusals.specs.declared.Refusal.the-variants.{ShortPage, WrongEnds, ShortAnswers}
 
 abbrev pub code : Refusal → ℕ
 -- "Depth above 64", "Ticket above 65,535 bytes", "Fewer than 8 words lent"
@@ -45,3 +45,6 @@ code NotUtf8 = 21
 code ShortSlice = 22
 -- document 02, R-1: "the lent page is shorter than 73 bytes a value"
 code ShortPage = 23
+-- R-2: "ends that fall, or pass the names", "fewer than three answer words a name"
+code WrongEnds = 24
+code ShortAnswers = 25

@@ -1,5 +1,5 @@
 // The refusals, each said once, and their numbers: what a call answers where it doesn't do what it was asked.
-// Definitions and code take this very enum; `code` (specs/Codes) is its number. 24 to 28 are kept for calls to come.
+// Definitions and code take this very enum; `code` (specs/Codes) is its number. 26 to 28 are kept for calls to come.
 // Nothing stands below it.
 ghost use mathlib.Core.Path.{_≡_};
 ghost use Rattle.refusals.specs.Codes.{code};
@@ -41,6 +41,9 @@ pub enum Refusal {
     ShortSlice,
     // 23, of a sheet: a page below a line's bytes a value.
     ShortPage,
+    // 24 and 25, of a list of names, before 1: ends that fall or pass the names, fewer than three words an answer.
+    WrongEnds,
+    ShortAnswers,
 }
 
 // The number of a refusal.
@@ -71,5 +74,7 @@ pub fn code(refusal: Refusal) -> u32
         Refusal::NotUtf8 => 21,
         Refusal::ShortSlice => 22,
         Refusal::ShortPage => 23,
+        Refusal::WrongEnds => 24,
+        Refusal::ShortAnswers => 25,
     }
 }

@@ -1,4 +1,4 @@
-//! Document 01's field reads, on the model's tree.
+//! Document 01's field reads, and document 02's of many names, on the model's tree.
 
 use crate::{accept, Config, Key, Kind, Outcome, Reader};
 
@@ -28,10 +28,7 @@ pub fn text(
         Err(refused) => return FieldOutcome::of(refused, Vec::new()),
     };
     let reading = reader.accepted(words.len(), text.len());
-    let read = reader
-        .field(name)
-        .and_then(|node| reader.text_of(node, duplicates));
-    match read {
+    match reader.text_named(name, duplicates) {
         Ok((offset, length)) => FieldOutcome {
             offset,
             length,
@@ -74,6 +71,69 @@ pub fn list(
     }
 }
 
+/// The words of an answer: number, offset and length.
+pub const ANSWER_WORDS: usize = 3;
+
+/// Names end to end, and the end of each.
+#[derive(Clone, Copy, Debug)]
+pub struct Names<'a> {
+    pub bytes: &'a [u8],
+    pub ends: &'a [u32],
+}
+
+impl<'a> Names<'a> {
+    /// The names one by one, where no end is below the one before it or past the bytes.
+    fn cut(self) -> Option<Vec<&'a [u8]>> {
+        let starts = std::iter::once(&0).chain(self.ends);
+        let name = |(&start, &end): (&u32, &u32)| self.bytes.get(start as usize..end as usize);
+        starts.zip(self.ends).map(name).collect()
+    }
+}
+
+/// What a read of many names answers, and what it leaves: `reading` has the call's own number, and `answers` what the answer words
+/// hold after it.
+#[derive(Clone, Debug, PartialEq, Eq)]
+pub struct FieldsOutcome {
+    pub reading: Outcome,
+    pub answers: Vec<u32>,
+}
+
+/// Reads `input`, and the text of the field of each name into `answers`, which holds anything before.
+pub fn fields(
+    config: Config,
+    duplicates: bool,
+    input: &[u8],
+    names: Names,
+    words: &[u32],
+    text: &[u8],
+    answers: &[u32],
+) -> FieldsOutcome {
+    let unanswered = |reading| FieldsOutcome {
+        reading,
+        answers: answers.to_vec(),
+    };
+    let Some(names) = names.cut() else {
+        return unanswered(Outcome::untouched(24, words, text));
+    };
+    if names.len() > answers.len() / ANSWER_WORDS {
+        return unanswered(Outcome::untouched(25, words, text));
+    }
+    let reader = match accept(config, input, words, text) {
+        Ok(reader) => reader,
+        Err(refused) => return unanswered(refused),
+    };
+    let answer = |name| match reader.text_named(name, duplicates) {
+        Ok((offset, length)) => [0, offset, length],
+        Err(number) => [number, 0, 0],
+    };
+    let mut left: Vec<u32> = names.into_iter().flat_map(answer).collect();
+    left.extend_from_slice(&answers[left.len()..]);
+    FieldsOutcome {
+        reading: reader.accepted(words.len(), text.len()),
+        answers: left,
+    }
+}
+
 impl FieldOutcome {
     fn of(reading: Outcome, list: Vec<u32>) -> Self {
         FieldOutcome {
@@ -86,6 +146,12 @@ impl FieldOutcome {
 }
 
 impl Reader<'_> {
+    /// The text of a field, or 16 to 19 or 21.
+    fn text_named(&self, name: &[u8], duplicates: bool) -> Result<Part, u32> {
+        let node = self.field(name)?;
+        self.text_of(node, duplicates)
+    }
+
     /// The field's value, or 16 or 17. A String root is its own field, with the empty name.
     fn field(&self, name: &[u8]) -> Result<usize, u32> {
         match self.nodes[0].kind {

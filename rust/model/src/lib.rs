@@ -1,11 +1,11 @@
-//! A model of document 01's reading, in `fields` of its field reads, and in `sheet` of document 02's proof sheet. It is recursive, as
-//! the source's parser is, with values in a growing list instead of lent records. It shares nothing with the proved reader, and gives
-//! everything that a call answers and leaves.
+//! A model of document 01's reading, in `fields` of its field reads and of document 02's of many names, and in `sheet` of document
+//! 02's proof sheet. It is recursive, as the source's parser is, with values in a growing list instead of lent records. It shares
+//! nothing with the proved reader, and gives everything that a call answers and leaves.
 
 mod fields;
 pub mod row;
 mod sheet;
-pub use fields::{list, text, FieldOutcome};
+pub use fields::{fields, list, text, FieldOutcome, FieldsOutcome, Names, ANSWER_WORDS};
 use row::WIDTH;
 pub use sheet::{sheet, SheetOutcome, SHEET_LINE};
 
@@ -27,6 +27,20 @@ pub struct Outcome {
     pub text: Vec<u8>,
 }
 
+impl Outcome {
+    /// A refusal before the first byte.
+    fn untouched(number: u32, words: &[u32], text: &[u8]) -> Self {
+        Outcome {
+            number,
+            place: 0,
+            records: 0,
+            bytes: 0,
+            words: words.to_vec(),
+            text: text.to_vec(),
+        }
+    }
+}
+
 /// Document 01's limits: how deep brackets may nest, and how many bytes an input may have.
 pub const MAX_DEPTH: u32 = 64;
 pub const MAX_LEN: usize = 65_535;
@@ -46,14 +60,7 @@ fn accept<'a>(
     words: &[u32],
     text: &[u8],
 ) -> Result<Reader<'a>, Outcome> {
-    let untouched = |number| Outcome {
-        number,
-        place: 0,
-        records: 0,
-        bytes: 0,
-        words: words.to_vec(),
-        text: text.to_vec(),
-    };
+    let untouched = |number| Outcome::untouched(number, words, text);
     if config.depth > MAX_DEPTH {
         return Err(untouched(1));
     }

@@ -13,7 +13,7 @@
 //! Exit status: 0, shown; 1, something was refused, isn't UTF-8 or can't be written; 2, bad usage.
 
 use qs::row::{self, part};
-use qs::{refusal, Config, DuplicateKeyBehavior::TakeLast, FieldRead};
+use qs::{refusal, Config, DuplicateKeyBehavior, FieldRead};
 use std::error::Error;
 use std::ffi::OsString;
 use std::io::{self, IsTerminal, Write};
@@ -107,15 +107,24 @@ fn value(record: &[u32], text: &[u8]) -> String {
     kind.to_owned()
 }
 
-/// The fields, one after another. One that can't be read doesn't keep the others from being shown.
+/// The fields, one after another. The ticket is read once for all of them, and again only for one that has several values or is a map.
+/// One that can't be read doesn't keep the others from being shown.
 fn show_fields(input: &[u8], names: &[Vec<u8>]) -> Shown {
+    let (mut records, mut text) = qs::buffers(input.len());
+    let (config, duplicates) = (Config::default(), DuplicateKeyBehavior::Error);
+    let fields = qs::fields(config, duplicates, input, names, &mut records, &mut text)
+        .map_err(|reading| refused(input, reading.number, reading.place))?;
     let mut out = io::stdout().lock();
     let mut unread = Vec::new();
-    for name in names {
-        match field_of(input, name) {
+    for (name, field) in names.iter().zip(fields) {
+        let lines = match field {
+            Ok(text) => Ok(line(&quoted(name), text)),
+            Err(refusal::SEVERAL_VALUES | refusal::WRONG_KIND) => lines_of(input, name),
+            Err(number) => Err(number),
+        };
+        match lines {
             Ok(lines) => out.write_all(lines.as_bytes())?,
-            Err(Unread::Input(why)) => return Err(why.into()),
-            Err(Unread::Field(why)) => unread.push(why),
+            Err(number) => unread.push(format!("{}: {}", quoted(name), meaning(number))),
         }
     }
     out.flush()?;
@@ -125,59 +134,47 @@ fn show_fields(input: &[u8], names: &[Vec<u8>]) -> Shown {
     }
 }
 
-/// Why a field isn't shown.
-enum Unread {
-    Input(String),
-    Field(String),
+/// A name, and its text.
+fn line(name: &str, text: &[u8]) -> String {
+    format!("{name} = {}\n", quoted(text))
 }
 
-/// Reads a field, as a text and as a list; it gives what [`lines`] makes of them.
-fn field_of(input: &[u8], name: &[u8]) -> Result<String, Unread> {
+/// The lines of a field that has several values or is a map, in an accepted ticket; or the number that says why it has none.
+fn lines_of(input: &[u8], name: &[u8]) -> Result<String, u32> {
     let (mut records, mut text) = qs::buffers(input.len());
     let mut list = vec![0; 2 * (input.len() + 1)];
-    let config = Config::default();
-    let one = qs::text(config, TakeLast, input, name, &mut records, &mut text);
-    let reading = one.reading;
-    if refusal::OF_A_READING.contains(&reading.number) {
-        let why = refused(input, reading.number, reading.place);
-        return Err(Unread::Input(why));
-    }
+    let (config, duplicates) = (Config::default(), DuplicateKeyBehavior::TakeLast);
+    let one = qs::text(config, duplicates, input, name, &mut records, &mut text);
     let all = qs::list(
         config,
-        TakeLast,
+        duplicates,
         input,
         name,
         &mut records,
         &mut text,
         &mut list,
     );
-    let name = quoted(name);
     match (one.reading.number, all.reading.number) {
-        (refusal::ACCEPTED, _) | (_, refusal::ACCEPTED) => Ok(lines(&name, &text, one, all, &list)),
-        // What is wrong with a list says more than that it is no text.
-        (refusal::WRONG_KIND, number) | (number, _) => {
-            Err(Unread::Field(format!("{name}: {}", meaning(number))))
+        (refusal::ACCEPTED, _) | (_, refusal::ACCEPTED) => {
+            Ok(lines(&quoted(name), &text, one, all, &list))
         }
+        // What is wrong with a list says more than that it is no text.
+        (refusal::WRONG_KIND, number) | (number, _) => Err(number),
     }
 }
 
-/// A field's lines: its text where it has one, and its elements where they are more than that one text.
+/// A field's lines: its text where it has one, and its elements.
 fn lines(name: &str, text: &[u8], one: FieldRead, all: FieldRead, list: &[u32]) -> String {
     let mut lines = String::new();
-    let (one_number, all_number) = (one.reading.number, all.reading.number);
-    if one_number == refusal::ACCEPTED {
-        let bytes = part(text, one.offset, one.length);
-        lines += &format!("{name} = {}\n", quoted(bytes));
+    if one.reading.number == refusal::ACCEPTED {
+        lines += &line(name, part(text, one.offset, one.length));
     }
-    if all_number != refusal::ACCEPTED {
-        lines += &format!("{name} as a list: {}\n", meaning(all_number));
+    if all.reading.number != refusal::ACCEPTED {
+        lines += &format!("{name} as a list: {}\n", meaning(all.reading.number));
     }
-    if one_number != refusal::ACCEPTED || all.length != 1 {
-        let elements = list.chunks_exact(2).take(all.length as usize);
-        for (index, words) in elements.enumerate() {
-            let bytes = part(text, words[0], words[1]);
-            lines += &format!("{name}[{index}] = {}\n", quoted(bytes));
-        }
+    let elements = list.chunks_exact(2).take(all.length as usize);
+    for (index, words) in elements.enumerate() {
+        lines += &line(&format!("{name}[{index}]"), part(text, words[0], words[1]));
     }
     lines
 }

@@ -30,6 +30,7 @@ static void check(int holds, const char *what, int line) {
 static uint32_t words[8 * QS_RECORD_WORDS];
 static uint8_t text[16];
 static uint32_t list[6];
+static uint32_t answers[3 * QS_ANSWER_WORDS + 2];
 static uint8_t page[2 * QS_SHEET_LINE + 5];
 
 /* Records and text as two slices. */
@@ -39,6 +40,7 @@ static void fill(void) {
     memset(words, 7, sizeof words);
     memset(text, 7, sizeof text);
     memset(list, 7, sizeof list);
+    memset(answers, 7, sizeof answers);
     memset(page, 7, sizeof page);
 }
 
@@ -73,6 +75,7 @@ static void numbers(void) {
     CHECK(QS_MAX_DEPTH == RUST_MAX_DEPTH);
     CHECK(QS_MAX_INPUT == RUST_MAX_INPUT);
     CHECK(QS_SHEET_LINE == RUST_SHEET_LINE);
+    CHECK(QS_ANSWER_WORDS == RUST_ANSWER_WORDS);
     CHECK(sizeof(struct qs_reading) == RUST_READING_SIZE);
     CHECK(sizeof(struct qs_field_read) == RUST_FIELD_READ_SIZE);
 }
@@ -133,6 +136,51 @@ static void read_list(void) {
     CHECK(read.number == 19 && read.length == 0 && all(list, sizeof list, 0));
 }
 
+/* Names: w, absent, and w again. */
+#define NAMES SLICE("wabsentw")
+
+/* The answers' words, so many of them lent. */
+#define ANSWERS(count) answers, (count)
+
+static void read_fields(void) {
+    static const uint32_t ends[3] = {1, 7, 8};
+    static const uint32_t last[3 * QS_ANSWER_WORDS] = {0, 4, 3, 17, 0, 0, 0, 4, 3};
+    static const uint32_t several[3 * QS_ANSWER_WORDS] = {19, 0, 0, 17, 0, 0, 19, 0, 0};
+    struct qs_reading reading;
+    fill();
+    reading = qs_fields(5, 0, 0, SLICE("w=fog&w=dew"), NAMES, ends, COUNT(ends), LENT, ANSWERS(COUNT(answers)));
+    CHECK(reading.number == 0 && reading.place == 0 && reading.records == 4 && reading.bytes == 7);
+    CHECK(memcmp(answers, last, sizeof last) == 0 && all(answers + COUNT(last), sizeof answers - sizeof last, 7));
+    CHECK(words[0] == 1 && memcmp(text, "wfogdew", 7) == 0 && all(text + 7, sizeof text - 7, 0));
+    reading = qs_fields(5, 0, UINT32_MAX, SLICE("w=fog&w=dew"), NAMES, ends, COUNT(ends), LENT, ANSWERS(COUNT(several)));
+    CHECK(reading.number == 0 && reading.records == 4 && memcmp(answers, several, sizeof several) == 0);
+    fill();
+    reading = qs_fields(5, 1, 0, SLICE("a%5B"), NAMES, ends, COUNT(ends), LENT, ANSWERS(COUNT(answers)));
+    CHECK(reading.number == 4 && reading.place == 5 && reading.records == 0 && reading.bytes == 0);
+    CHECK(all(words, sizeof words, 0) && all(text, sizeof text, 0) && all(answers, sizeof answers, 7));
+    reading = qs_fields(5, 0, 0, SLICE("w=fog"), NULL, 0, NULL, 0, LENT, NULL, 0);
+    CHECK(reading.number == 0 && reading.place == 0 && reading.records == 2 && reading.bytes == 4);
+    CHECK(words[0] == 1 && memcmp(text, "wfog", 4) == 0);
+    reading = qs_fields(5, 0, 0, NULL, 0, NULL, 0, NULL, 0, words, COUNT(words), NULL, 0, NULL, 0);
+    CHECK(reading.number == 0 && reading.records == 1 && reading.bytes == 0 && words[0] == 5);
+}
+
+/* 24 and 25 come before 1, and leave every slice as it was. */
+static void refused_names(void) {
+    static const uint32_t ends[3] = {1, 7, 8}, falling[3] = {1, 8, 7}, passing[3] = {1, 7, 9};
+    struct qs_reading reading;
+    fill();
+    reading = qs_fields(QS_MAX_DEPTH + 1, 0, 0, SLICE("w["), NAMES, falling, COUNT(falling), LENT, ANSWERS(0));
+    CHECK(reading.number == 24 && reading.place == 0 && reading.records == 0 && reading.bytes == 0);
+    reading = qs_fields(5, 0, 0, SLICE("w=fog"), NAMES, passing, COUNT(passing), LENT, ANSWERS(COUNT(answers)));
+    CHECK(reading.number == 24 && reading.place == 0 && reading.records == 0 && reading.bytes == 0);
+    reading = qs_fields(QS_MAX_DEPTH + 1, 0, 0, SLICE("w["), NAMES, ends, COUNT(ends), LENT, ANSWERS(3 * QS_ANSWER_WORDS - 1));
+    CHECK(reading.number == 25 && reading.place == 0 && reading.records == 0 && reading.bytes == 0);
+    reading = qs_fields(QS_MAX_DEPTH + 1, 0, 0, SLICE("w["), NAMES, ends, COUNT(ends), LENT, ANSWERS(3 * QS_ANSWER_WORDS));
+    CHECK(reading.number == 1 && reading.place == 0 && reading.records == 0 && reading.bytes == 0);
+    CHECK(all(words, sizeof words, 7) && all(text, sizeof text, 7) && all(answers, sizeof answers, 7));
+}
+
 static void sheet(void) {
     static const size_t two_lines = 2 * QS_SHEET_LINE;
     char lines[2 * QS_SHEET_LINE + 1];
@@ -166,6 +214,8 @@ int main(void) {
     parse();
     read_text();
     read_list();
+    read_fields();
+    refused_names();
     sheet();
     printf("%d checks, %d failed\n", checks, failures);
     return failures > 0;

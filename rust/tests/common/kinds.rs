@@ -42,12 +42,7 @@ pub const USUAL: [Kind; 15] = [
         let value = "the quick brown fox ".repeat(20);
         pairs(length, |i| format!("k{i}={value}"))
     }),
-    kind("plates", |length| {
-        pairs(length, |i| {
-            let page = i + 1;
-            format!("plate[{i}][page]={page}&plate[{i}][caption]=Fog+at+dawn")
-        })
-    }),
+    kind("plates", |length| pairs(length, plate)),
     kind("sequence a[]=1", |length| pairs(length, |_| "a[]=1")),
     kind("repeated a=1&a=2", |length| {
         pairs(length, |i| format!("a={}", i % 10))
@@ -139,6 +134,12 @@ pub fn ordered<P: AsRef<[u8]>>(
 /// Keys of one length, which stand in the order of their numbers.
 fn flat(length: usize, order: Order) -> Vec<u8> {
     ordered(length, 9, order, |i| format!("k{i:05}=v"))
+}
+
+/// A plate with its page and its caption.
+pub fn plate(i: usize) -> String {
+    let page = i + 1;
+    format!("plate[{i}][page]={page}&plate[{i}][caption]=Fog+at+dawn")
 }
 
 /// A path of 64 brackets, one of 256 under each of three keys.

@@ -9,7 +9,7 @@ pub mod programs;
 pub mod rows;
 pub mod whatwg;
 
-use qs::row;
+use qs::{refusal, row};
 use std::io::Write;
 
 /// A byte of each kind that decoding tells apart: both marks, a digit, a hex letter of either case,
@@ -165,6 +165,12 @@ pub fn random_config(random: &mut Random) -> qs::Config {
     }
 }
 
+/// Either of what a field read may do with several values.
+pub fn random_duplicates(random: &mut Random) -> qs::DuplicateKeyBehavior {
+    use qs::DuplicateKeyBehavior::{Error, TakeLast};
+    [TakeLast, Error][random.below(2)]
+}
+
 /// Settings for the model.
 pub fn settings(config: qs::Config) -> model::Config {
     let qs::Config { depth, form } = config;
@@ -186,5 +192,41 @@ pub fn outcome(reading: qs::Reading, words: Vec<u32>, text: Vec<u8>) -> model::O
         bytes,
         words,
         text,
+    }
+}
+
+/// What buffers hold before a call.
+pub const BEFORE: u8 = 7;
+
+/// Records and text of so many words and bytes, as they are before a call.
+pub fn lent(words: usize, bytes: usize) -> (Vec<u32>, Vec<u8>) {
+    (vec![BEFORE.into(); words], vec![BEFORE; bytes])
+}
+
+/// What `qs_parse` answers and leaves where so many words and bytes are lent.
+pub fn parsed(config: qs::Config, input: &[u8], words: usize, bytes: usize) -> model::Outcome {
+    let (mut words, mut text) = lent(words, bytes);
+    let reading = qs::parse(config, input, &mut words, &mut text);
+    outcome(reading, words, text)
+}
+
+/// How often each number was answered.
+#[derive(Default)]
+pub struct Numbers([usize; refusal::ALL.len()]);
+
+impl Numbers {
+    pub fn count(&mut self, number: u32) {
+        self.0[number as usize] += 1;
+    }
+
+    /// Says how often each came. Those that have to come did.
+    pub fn report(&self, what: &str, expected: &[u32]) {
+        println!("{what} answered 0, 1, … {:?} times", self.0);
+        for &number in expected {
+            assert!(
+                self.0[number as usize] > 0,
+                "{what} never answered {number}"
+            );
+        }
     }
 }

@@ -1,0 +1,67 @@
+-- All fields in one reading: what the call answers, and what it leaves in the lent buffers and the answer words.
+-- Document 02, R-2. The public contract equates its result with `fieldsRead`.
+use Prim.Native.Nat.{ℕ, _*_}
+use mathlib.Core.Bool.{Bool, cond, not}
+use mathlib.Core.List.{List}
+use lib.Dec.{ltb}
+use lib.ListN.{length}
+use Rattle.refusals.specs.declared.Refusal.{Refusal}
+use Rattle.refusals.specs.declared.Refusal.the-variants.{WrongEnds, ShortAnswers}
+use Rattle.config.specs.declared.Config.{Config}
+use Rattle.reading.specs.Values.{Node}
+use Rattle.reading.specs.Reading.{Outcome, unread, read, after}
+use Rattle.fields.specs.declared.DuplicateKeyBehavior.{DuplicateKeyBehavior}
+use Rattle.fields.specs.Texts.{textNamed}
+use Rattle.lookups.specs.Names.{endsFit, namesIn}
+use Rattle.lookups.specs.Answers.{answerWidth, answersOf, over}
+
+-- What is asked: of an input, at these settings, the fields of names that lie in bytes, with the end of each.
+pub record Asked : Type 0 where
+  pub config : Config
+  pub duplicates : DuplicateKeyBehavior
+  pub input : List ℕ
+  pub names : List ℕ
+  pub ends : List ℕ
+
+-- What the call itself answers, with what the words and the text hold then; and what the answer words hold.
+pub record FieldsOutcome : Type 0 where
+  pub reading : Outcome
+  pub answers : List ℕ
+
+-- "Under 1 to 15 … the answer words are untouched."
+abbrev pub unanswered : List ℕ → Outcome → FieldsOutcome
+unanswered answers o = record { reading = o; answers = answers }
+
+-- "The call's own number is 0 once the reading accepts; 16 to 21 stand only in the answer words." Each name's answer is
+-- that of the text read of its field, in the tree that was made; "past the last answer" nothing changes.
+abbrev pub fieldsAfter : DuplicateKeyBehavior → List (List ℕ) → List ℕ → Node → Outcome → FieldsOutcome
+fieldsAfter duplicates names answers tree o =
+    record { reading = o; answers = over (answersOf (λ name. textNamed duplicates name (tree .value)) names) answers }
+
+-- "reads the ticket a single time and answers every name as a text read", into these words, text and answer words.
+abbrev pub fieldsAnswered : Asked → List ℕ → List ℕ → List ℕ → FieldsOutcome
+fieldsAnswered asked words text answers =
+    let names = namesIn (asked .names) (asked .ends) in
+    after (read (asked .config) (asked .input) words text) (fieldsAfter (asked .duplicates) names answers)
+    (unanswered answers)
+
+-- 24 and 25: "Both leave every slice untouched."
+abbrev pub unasked : Refusal → List ℕ → List ℕ → List ℕ → FieldsOutcome
+unasked x words text answers = unanswered answers (unread x words text)
+
+-- Whether the ends are those of names in the bytes.
+abbrev pub fit : Asked → Bool
+fit asked = endsFit 0 (length (asked .names)) (asked .ends)
+
+-- The words of all answers.
+abbrev pub answerRoom : Asked → ℕ
+answerRoom asked = length (asked .ends) * answerWidth
+
+-- "24: ends that fall, or pass the names; before refusal 1. 25: fewer than three answer words a name, for number,
+-- offset and length; after 24, before 1."
+unfoldable pub fieldsRead : Asked → List ℕ → List ℕ → List ℕ → FieldsOutcome
+fieldsRead asked words text answers =
+    let answered = fieldsAnswered asked words text answers in
+    cond (not (fit asked)) (unasked WrongEnds words text answers)
+    (cond (ltb (length answers) (answerRoom asked)) (unasked ShortAnswers words text answers)
+    answered)
