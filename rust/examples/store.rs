@@ -75,6 +75,7 @@ pub fn file() -> Vec<u8> {
     let mut store = Store::default();
     store.inputs_to_try();
     store.limits();
+    store.digits();
     store.drawn();
     let mut file = store.cases.to_le_bytes().to_vec();
     file.extend(store.bytes);
@@ -127,6 +128,49 @@ impl Store {
                 let nested = [&b"a"[..], &b"[b]".repeat(70), b"=1"].concat();
                 self.add(Config { depth, form }, &nested, MOST_WORDS, MOST_BYTES);
             }
+        }
+    }
+
+    /// Keys of digits at the root, in brackets and at the depth, and with no text lent, which an Int doesn't need.
+    fn digits(&mut self) {
+        let padded = |digits: &str| "0".repeat(40) + digits;
+        let keys = [
+            // on both sides of the greatest Int, with zeros in front and without
+            "4294967295",
+            "4294967296",
+            &padded("7"),
+            &padded("4294967295"),
+            &padded("4294967296"),
+            // sums that wrap to 7 in 32 and in 64 bits
+            "4294967303",
+            "42949672967",
+            "18446744073709551623",
+            "184467440737095516167",
+            // beside the digits in ASCII
+            "/1",
+            "1/",
+            ":1",
+            "1:",
+        ];
+        for key in keys {
+            for (depth, input) in [
+                (5, format!("{key}=v")),
+                (5, format!("a[{key}]=v")),
+                (1, format!("a[b][{key}]=v")),
+                (0, format!("{key}[0]=v")),
+            ] {
+                let config = Config { depth, form: false };
+                self.add(config, input.as_bytes(), MOST_WORDS, MOST_BYTES);
+            }
+            self.add(
+                Config {
+                    depth: 5,
+                    form: true,
+                },
+                key.as_bytes(),
+                2 * WIDTH,
+                0,
+            );
         }
     }
 

@@ -779,7 +779,7 @@ fn kinds() {
             counts.compare(asked, Sizes::ample(input.len(), laid.1.len()));
         }
     }
-    counts.report("15 kinds of long input", &[0], &[0, 16, 17, 18, 19]);
+    counts.report("every usual kind of long input", &[0], &[0, 16, 17, 18, 19]);
 }
 
 /// The longest input is read, and one byte more is refused by 2.

@@ -282,7 +282,7 @@ fn kinds() {
             counts.around(config, &make(length));
         }
     }
-    counts.report("32 kinds of long input", &[0, 23]);
+    counts.report("every kind of long input", &[0, 23]);
 }
 
 /// Records and text that may not suffice, so that a reading is refused before the page is looked at.

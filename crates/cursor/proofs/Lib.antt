@@ -4,3 +4,4 @@ pub mod From
 pub mod Scans
 pub mod Ampersands
 pub mod Collected
+pub mod Digits

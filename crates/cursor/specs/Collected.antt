@@ -1,5 +1,5 @@
--- Document 01, 'A value (`collect_value`)': what is collected of a place where a value starts. (What `collect_key`
--- answers of a segment is crate key's `keyIn`.)
+-- Document 01, 'A key (`collect_key`)' and 'A value (`collect_value`)': what is collected of a place where a key or a
+-- value starts. (What `collect_key` answers of a segment is crate key's `keyIn`.)
 use Prim.Native.Nat.{ℕ}
 use mathlib.Core.Path.{_≡_}
 use mathlib.Core.Option.{Option}
@@ -7,10 +7,22 @@ use mathlib.Core.List.{List}
 use Rattle.config.specs.declared.Config.{Config}
 use Rattle.reading.specs.Leaves.{valueOf, leafOf}
 use Rattle.reading.specs.Taking.{Symbol}
+use Rattle.key.specs.Collected.{collected, keyIn}
+use Rattle.cursor.specs.declared.scanning.Until.{Until}
 use Rattle.cursor.specs.declared.scanning.Until.the-variants.{Value}
+use Rattle.cursor.specs.declared.collecting.CollectedKey.{CollectedKey}
 use Rattle.cursor.specs.declared.collecting.CollectedValue.{CollectedValue}
 use Rattle.cursor.specs.Segments.{segment}
+use Rattle.cursor.specs.Takings.{yielded}
 use Rattle.cursor.specs.Scans.{Scan}
+
+-- The scan from a place to the taking that ends it, and the key of the segment in between.
+pub record KeyTaken (until : Until) (config : Config) (input : List ℕ) (place : ℕ) (found : CollectedKey) : Type 0 where
+  pub scan : Scan until config input place (found .taken .cursor .end) (yielded (found .taken .symbol))
+      (found .taken .cursor .place)
+  pub start : found .taken .cursor .start ≡ place
+  pub key : keyIn (found .key) (segment input place (found .taken .cursor .end))
+      ≡ collected config (segment input place (found .taken .cursor .end))
 
 -- "Bytes up to `&` or end. Empty is Null, else a decoded String." The raw segment runs from the place to the answer's
 -- end.

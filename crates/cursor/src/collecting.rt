@@ -5,12 +5,21 @@ ghost use Prim.Native.Nat.{_≤_};
 ghost use lib.ListN.{length};
 ghost use Rattle.key.specs.Collected.{collected, keyIn};
 ghost use Rattle.cursor.specs.Segments.{segment};
-ghost use Rattle.cursor.specs.Collected.{ValueIs};
+ghost use Rattle.cursor.specs.Collected.{KeyTaken, ValueIs};
 use crate::finding::value_end;
+use crate::scanning::Until;
+use crate::scanning::take_until;
 use crate::taking::Cursor;
+use crate::taking::Taken;
 use config::Config;
 use key::KeyKind;
 use reading::LeafKind;
+
+// A key, and the taking that ended it, whose cursor has its segment.
+pub struct CollectedKey {
+    pub key: KeyKind,
+    pub taken: Taken,
+}
 
 // A value: its kind, where its raw segment ends, and the place after the taking that ended it.
 pub struct CollectedValue {
@@ -28,6 +37,24 @@ pub fn collect_key(input: &[u8], config: Config, cursor: Cursor) -> KeyKind
     let start = cursor.start;
     let end = cursor.end;
     key::key_of(config, &input[start..end])
+}
+
+// The key that starts at a place, and the taking that ends it. The digits that it begins with are summed as they are
+// passed, since none of them ends a scan; the scan goes on behind them, and tells by its end whether they are all.
+pub fn take_key(input: &[u8], config: Config, until: Until, place: usize) -> CollectedKey
+    requires { ⌜ place ≤ length (now input) ⌝ }
+    ensures { λ r. ⌜ KeyTaken until config (now (input .entry)) place r ⌝ }
+{
+    let leading = key::leading_int(config, &input[place..]);
+    let behind = Cursor {
+        place: place + leading.len,
+        start: place,
+        end: place,
+    };
+    let taken = take_until(input, config, until, behind);
+    let segment = taken.cursor;
+    let key = key::kind_of(leading, segment.end - place);
+    CollectedKey { key, taken }
 }
 
 // The value that starts at a place: the bytes up to `&` or the end. That is so with either flag, since no escaped

@@ -1,11 +1,11 @@
 -- Where no failed escape swallows '+' or '%', decoding is WHATWG's (specs/Agreement).
 use mathlib.Core.Path.{_≡_, refl, sym, ap, _∙_}
-use mathlib.Core.Bool.{Bool, true, false, not, _&&_}
+use mathlib.Core.Bool.{true, false, not, _&&_}
 use mathlib.Core.List.{List, [], _∷_}
 use Prim.Native.Nat.{ℕ}
 use borrow.Author.Tests.{eqb-true}
 use lib.Dec.{eqb}
-use Rattle.laws.proofs.Cases.{split, true-false}
+use Rattle.laws.proofs.Cases.{split, true-false, halves}
 use Rattle.decode.specs.Hex.{digitOf, isHex, byteOf}
 use Rattle.decode.specs.Decoding.{decoded, plusToSpace}
 use Rattle.decode.specs.Whatwg.{percentDecode, whatwg}
@@ -42,11 +42,6 @@ whatwg-other x (y ∷ z ∷ r) h = simp (percent-spaced x, h)
 
 whatwg-unmarked : (x : ℕ) (t : List ℕ) → not (isMark x) ≡ true → whatwg (x ∷ t) ≡ x ∷ whatwg t
 whatwg-unmarked x t q = whatwg-other x t (unmarked-other x q) ∙ ap (λ b. b ∷ whatwg t) (unmarked-spaced x q)
-
--- Both halves of a conjunction that holds.
-pub halves : (a b : Bool) → a && b ≡ true → (a ≡ true) × (b ≡ true)
-halves true b e = (refl, e)
-halves false b e = true-false (sym e)
 
 -- What a '%' and the bytes after it stand for.
 module _ (x y z : ℕ) (r : List ℕ) (p : eqb x 37 ≡ true) where

@@ -1,11 +1,11 @@
 -- The head of an input: how its parts are found.
 use mathlib.Core.Path.{_≡_, refl, sym, ap, _∙_}
-use mathlib.Core.Bool.{Bool, true, false, cond, not, _&&_}
+use mathlib.Core.Bool.{Bool, true, false, cond, not}
 use mathlib.Core.List.{List, [], _∷_}
-use Prim.Native.Nat.{ℕ, zero, suc, _+_, _*_, _-_, _≤_, _<_}
+use Prim.Native.Nat.{ℕ, _+_, _*_, _-_, _≤_, _<_}
 use native.Mathlib.Omega.{arith}
-use borrow.Author.Tests.{eq-eqb, ne-eqb, le-leb, lt-leb, leb-true}
-use lib.Dec.{eqb, leb}
+use borrow.Author.Tests.{eq-eqb, ne-eqb, le-leb, lt-leb}
+use lib.Dec.{eqb}
 use lib.ListN.{length, take, drop, getD, length-drop, drop-of-length-le}
 use Rattle.laws.proofs.Cases.{by-test, true-false, both}
 use Rattle.laws.proofs.Lists.{drop-1, mid-tail}
@@ -79,22 +79,6 @@ leading-digits (b ∷ s) = go (isDigit b) refl (leading-digits s)
     go : (d : Bool) → isDigit b ≡ d → allDigits (leadingDigits s) ≡ true → allDigits (cond d (b ∷ leadingDigits s) []) ≡ true
     go true e f = rw (e, f)
     go false e f = refl
-
--- Each of them is a digit.
-pub digit-bounds : (digits : List ℕ) (i : ℕ) → allDigits digits ≡ true → i < length digits → (48 ≤ getD digits i 0) × (getD digits i 0 ≤ 57)
-unfolding allDigits
-digit-bounds [] i e h = absurd (omega arith)
-digit-bounds (b ∷ s) zero e h = go (leb 48 b) (leb b 57) refl refl e
-  where
-    go : (x y : Bool) → leb 48 b ≡ x → leb b 57 ≡ y → (x && y) && allDigits s ≡ true → (48 ≤ b) × (b ≤ 57)
-    go true true f g k = (leb-true 48 b f, leb-true b 57 g)
-    go true false f g k = true-false (sym k)
-    go false y f g k = true-false (sym k)
-digit-bounds (b ∷ s) (suc i) e h = digit-bounds s i (go (isDigit b) e) (omega arith)
-  where
-    go : (x : Bool) → x && allDigits s ≡ true → allDigits s ≡ true
-    go true k = k
-    go false k = true-false (sym k)
 
 -- One to three digits, by their number.
 pub depth-none : (l : List ℕ) → length l ≡ 0 → false ≡ isDepth l

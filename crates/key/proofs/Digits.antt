@@ -1,85 +1,138 @@
--- The loop of `key_of`: the key that follows from here is the segment's.
-use mathlib.Core.Path.{_≡_, refl, sym, _∙_}
-use mathlib.Core.Bool.{Bool, true, false, cond, _&&_}
-use mathlib.Core.List.{List, [], _∷_}
-use Prim.Native.Nat.{ℕ, _+_, _*_, _-_, _≤_, _<_}
+-- The loop of `leading_int`: up to a byte all are digits whose value is an Int; and what the longest Int tells of a key.
+use mathlib.Core.Path.{_≡_, refl, sym, ap, ap₂, _∙_}
+use mathlib.Core.Bool.{Bool, true, false, cond, not, _&&_, _||_}
+use mathlib.Core.List.{List, [], _∷_, _++_}
+use Prim.Native.Nat.{ℕ, suc, _+_, _*_, _-_, _≤_, _<_}
 use native.Mathlib.Omega.{arith}
-use borrow.Author.Tests.{le-leb, lt-leb}
-use lib.Dec.{leb}
-use lib.ListN.{length, drop, getD, drop-of-length-le}
+use borrow.Author.Tests.{le-leb, lt-leb, lt-ltb, le-ltb}
+use lib.Dec.{leb, ltb}
+use lib.ListN.{length, take, drop, getD}
+use lib.Seq.{take-add, take-length, length-take-le}
+use Rattle.laws.proofs.Cases.{below, halves, true-false}
 use Rattle.laws.proofs.Lists.{drop-1}
 use Rattle.config.specs.declared.Config.{Config}
 use Rattle.decode.specs.Decoding.{decoded}
+use Rattle.ascii.specs.Digits.{isDigit, allDigits, valueFrom}
+use Rattle.ascii.proofs.Digits.{digits-join, value-join, value-grows, digit-is}
+use Rattle.key.specs.declared.KeyKind.{KeyKind}
 use Rattle.key.specs.declared.KeyKind.the-variants.{None, Int, String}
-use Rattle.ascii.specs.Digits.{allDigits, valueFrom}
-use Rattle.key.specs.Keys.{int, str, maxInt}
-use Rattle.key.specs.Collected.{Collected, key, collected, keyIn}
+use Rattle.key.specs.declared.LeadingInt.{LeadingInt}
+use Rattle.key.specs.Keys.{int, str, maxInt, isInt}
+use Rattle.key.specs.Collected.{key, collected, keyIn}
+use Rattle.key.specs.Leading.{LongestInt, OneLongest, Tells}
 
--- The key of a segment whole, of which digits of value v are read and xs is left.
-abbrev keyFrom : List ℕ → ℕ → List ℕ → Collected
-keyFrom whole v xs = key (cond (allDigits xs && leb (valueFrom v xs) maxInt) (int (valueFrom v xs)) (str (decoded whole)))
-
--- A value only grows.
-value-grows : (v : ℕ) (xs : List ℕ) → v ≤ valueFrom v xs
-unfolding valueFrom
-value-grows v [] = omega arith
-value-grows v (x ∷ xs) = omega (arith, value-grows (v * 10 + (x - 48)) xs)
+-- The test of a byte, which is true of one that is no digit.
+digit-test : (b : ℕ) → isDigit b ≡ not (ltb b 48 || ltb 57 b)
+digit-test b =
+    below b 48 (λ h. rw (lt-leb 48 b h, lt-ltb b 48 h))
+    (λ h. below 57 b (λ k. rw (le-leb 48 b h, lt-leb b 57 k, le-ltb b 48 h, lt-ltb 57 b k))
+    (λ k. rw (le-leb 48 b h, le-leb b 57 k, le-ltb b 48 h, le-ltb 57 b k)))
 
 never : (b : Bool) → b && false ≡ false
 never true = refl
 never false = refl
 
-too-large : (whole : List ℕ) (v : ℕ) (xs : List ℕ) → maxInt < v → keyFrom whole v xs ≡ key (str (decoded whole))
-too-large whole v xs h = simp (lt-leb (valueFrom v xs) maxInt (omega (arith, value-grows v xs)), never)
+-- An Int is digits alone.
+pub int-digits : (config : Config) (s : List ℕ) → isInt config s ≡ true → allDigits s ≡ true
+int-digits config s e = halves (allDigits s) (leb (valueFrom 0 s) maxInt) e .0
 
--- The loop: digits of value v stand before i, and what is left gives the whole segment's key.
-pub record Reading (s : List ℕ) (i v : ℕ) : Type 0 where
-  pub some : length s ≡ 0 → ⊥
+-- The first n bytes: those before i, the byte there, and more.
+front : (s : List ℕ) (i n : ℕ) → i < n → n ≤ length s
+    → take n s ≡ take i s ++ (getD s i 0 ∷ take (n - (i + 1)) (drop (i + 1) s))
+front s i n h k =
+    let e : n ≡ i + suc (n - (i + 1)) = omega arith in
+    ap (λ m. take m s) e ∙ take-add i (suc (n - (i + 1))) s ∙ ap (λ t. take i s ++ take (suc (n - (i + 1))) t) (drop-1 s i (omega arith))
+
+-- The bytes before i are digits of value v, an Int.
+pub record Summed (s : List ℕ) (i v : ℕ) : Type 0 where
   pub within : i ≤ length s
+  pub digits : allDigits (take i s) ≡ true
+  pub value : valueFrom 0 (take i s) ≡ v
   pub small : v ≤ maxInt
-  pub so-far : keyFrom s v (drop i s) ≡ keyFrom s 0 s
 
-pub reading-start : (s : List ℕ) → (length s ≡ 0 → ⊥) → Reading s 0 0
-reading-start s h = record { some = h; within = omega arith; small = omega arith; so-far = refl }
+pub summed-none : (s : List ℕ) → Summed s 0 0
+unfolding allDigits valueFrom
+summed-none s = record { within = omega arith; digits = refl; value = refl; small = omega arith }
 
-pub none : (config : Config) (s : List ℕ) → length s ≡ 0 → keyIn None s ≡ collected config s
-none config [] h = refl
-none config (x ∷ s) h = absurd (omega arith)
-
-whole : (config : Config) (s : List ℕ) → (length s ≡ 0 → ⊥) → keyFrom s 0 s ≡ collected config s
-whole config [] h = absurd (h refl)
-whole config (x ∷ s) h = refl
-
-module _ {s : List ℕ} {i v : ℕ} (r : Reading s i v) (h : i < length s) where
-  here : keyFrom s v (getD s i 0 ∷ drop (i + 1) s) ≡ keyFrom s 0 s
-  here = rw (drop-1 s i h) at (r .so-far)
-
-  module _ (k : 48 ≤ getD s i 0) (l : getD s i 0 ≤ 57) where
-    on : keyFrom s (v * 10 + (getD s i 0 - 48)) (drop (i + 1) s) ≡ keyFrom s 0 s
-    unfolding allDigits valueFrom
-    on = simp (le-leb 48 (getD s i 0) k, le-leb (getD s i 0) 57 l) at here
-
-    pub reading-more : v * 10 + (getD s i 0 - 48) ≤ maxInt → Reading s (i + 1) (v * 10 + (getD s i 0 - 48))
-    reading-more m = record { some = r .some; within = omega arith; small = m; so-far = on }
-
--- The returns: what is known of the whole segment's key is known of what is collected.
-module _ (config : Config) {s : List ℕ} {i v : ℕ} (r : Reading s i v) where
-  gives : {k : Collected} → k ≡ keyFrom s 0 s → k ≡ collected config s
-  gives e = e ∙ whole config s (r .some)
-
-  pub reading-done : length s ≤ i → keyIn (Int v) s ≡ collected config s
-  unfolding allDigits valueFrom
-  reading-done h = gives (simp (drop-of-length-le s h, le-leb v maxInt (r .small)) at (r .so-far))
-
-  module _ (h : i < length s) where
-    pub below-digits : getD s i 0 < 48 → keyIn String s ≡ collected config s
+module _ {s : List ℕ} {i v : ℕ} (r : Summed s i v) where
+  -- Digits and value of the first n bytes, by the byte at i and those behind it.
+  module _ (n : ℕ) (h : i < n) (k : n ≤ length s) where
+    digits-on : allDigits (take n s) ≡ isDigit (getD s i 0) && allDigits (take (n - (i + 1)) (drop (i + 1) s))
     unfolding allDigits
-    below-digits k = gives (simp (lt-leb 48 (getD s i 0) k) at (here r h))
+    digits-on = rw (front s i n h k, digits-join (take i s), r .digits)
 
-    module _ (k : 48 ≤ getD s i 0) where
-      pub above-digits : 57 < getD s i 0 → keyIn String s ≡ collected config s
-      unfolding allDigits
-      above-digits l = gives (simp (le-leb 48 (getD s i 0) k, lt-leb (getD s i 0) 57 l) at (here r h))
+    value-on : valueFrom 0 (take n s) ≡ valueFrom (v * 10 + (getD s i 0 - 48)) (take (n - (i + 1)) (drop (i + 1) s))
+    unfolding valueFrom
+    value-on = rw (front s i n h k, value-join 0 (take i s), r .value)
 
-      pub above-int : getD s i 0 ≤ 57 → maxInt < v * 10 + (getD s i 0 - 48) → keyIn String s ≡ collected config s
-      above-int l m = gives (sym (too-large s (v * 10 + (getD s i 0 - 48)) (drop (i + 1) s) m) ∙ on r h k l)
+  is-digit : (ltb (getD s i 0) 48 || ltb 57 (getD s i 0)) ≡ false → isDigit (getD s i 0) ≡ true
+  is-digit e = digit-test (getD s i 0) ∙ ap not e
+
+  pub digit-here : (ltb (getD s i 0) 48 || ltb 57 (getD s i 0)) ≡ false → (48 ≤ getD s i 0) × (getD s i 0 ≤ 57)
+  digit-here e = digit-is (getD s i 0) (is-digit e)
+
+  pub summed-more : i < length s → (ltb (getD s i 0) 48 || ltb 57 (getD s i 0)) ≡ false → v * 10 + (getD s i 0 - 48) ≤ maxInt
+      → Summed s (i + 1) (v * 10 + (getD s i 0 - 48))
+  unfolding allDigits valueFrom
+  summed-more h d m =
+      let e : i + 1 - (i + 1) ≡ 0 = omega arith in
+      record {
+        within = omega arith;
+        digits = digits-on (i + 1) (omega arith) (omega arith) ∙ rw (e, is-digit d);
+        value = value-on (i + 1) (omega arith) (omega arith) ∙ rw e;
+        small = m;
+      }
+
+  -- The ways in which the pass ends: at the end, at a byte that is no digit, and at a digit that makes the sum too large.
+  module _ (config : Config) where
+    longest-here : ((n : ℕ) → i < n → n ≤ length s → isInt config (take n s) ≡ false) → LongestInt config s (record { len = i; value = v })
+    longest-here f =
+        record { within = r .within; int = rw (r .digits, r .value, le-leb v maxInt (r .small)); value = r .value; longest = f }
+
+    pub longest-whole : length s ≤ i → LongestInt config s (record { len = i; value = v })
+    longest-whole h = longest-here (λ n k l. absurd (omega arith))
+
+    pub longest-byte : (ltb (getD s i 0) 48 || ltb 57 (getD s i 0)) ≡ true → LongestInt config s (record { len = i; value = v })
+    longest-byte e =
+        let d : isDigit (getD s i 0) ≡ false = digit-test (getD s i 0) ∙ ap not e in longest-here (λ n h k. rw (digits-on n h k, d))
+
+    pub longest-sum : maxInt < v * 10 + (getD s i 0 - 48) → LongestInt config s (record { len = i; value = v })
+    longest-sum m =
+        longest-here (λ n h k.
+        let t = take (n - (i + 1)) (drop (i + 1) s) in
+        let e = lt-leb (valueFrom (v * 10 + (getD s i 0 - 48)) t) maxInt (omega (arith, value-grows (v * 10 + (getD s i 0 - 48)) t)) in
+        rw (value-on n h k, e) (never (allDigits (take n s))))
+
+-- What it tells of the key of the first n bytes.
+module _ {config : Config} {s : List ℕ} {leading : LeadingInt} (r : LongestInt config s leading) (n : ℕ) where
+  some : (x : List ℕ) → (length x ≡ 0 → ⊥) → collected config x ≡ key (cond (isInt config x) (int (valueFrom 0 x)) (str (decoded x)))
+  some [] h = absurd (h refl)
+  some (b ∷ x) h = refl
+
+  pub tells-none : n ≡ 0 → Tells config s leading n None
+  tells-none e h k = rw e
+
+  pub tells-int : (n ≡ 0 → ⊥) → leading .len ≡ n → Tells config s leading n (Int (leading .value))
+  tells-int z e h k =
+      let f : isInt config (take n s) ≡ true = rw e at (r .int) in
+      let g : valueFrom 0 (take n s) ≡ leading .value = rw e at (r .value) in
+      sym (some (take n s) (λ q. z (omega (arith, length-take-le n s k))) ∙ rw (f, g))
+
+  pub tells-string : (n ≡ 0 → ⊥) → (leading .len ≡ n → ⊥) → Tells config s leading n String
+  tells-string z e h k =
+      sym (some (take n s) (λ q. z (omega (arith, length-take-le n s k))) ∙ rw (r .longest n (omega arith) k))
+
+-- And of all bytes.
+pub tells-all : {config : Config} {s : List ℕ} {leading : LeadingInt} (kind : KeyKind) → LongestInt config s leading
+    → ((config : Config) (x : List ℕ) → LongestInt config x leading → Tells config x leading (length s) kind) → keyIn kind s ≡ collected config s
+tells-all {config} {s} kind l t = rw (take-length s) at (t config s l (l .within) (omega arith))
+
+-- Of two longest Ints neither is longer than the other.
+not-longer : {config : Config} {s : List ℕ} {x y : LeadingInt} → LongestInt config s x → LongestInt config s y → x .len < y .len → ⊥
+not-longer {y = y} p q h = true-false (sym (q .int) ∙ p .longest (y .len) h (q .within))
+
+pub one-longest : OneLongest
+one-longest config s x y p q =
+    let same : x .len ≡ y .len = below (x .len) (y .len) (λ h. absurd (not-longer p q h))
+    (λ h. below (y .len) (x .len) (λ k. absurd (not-longer q p k)) (λ k. omega arith)) in
+    ap₂ (λ n v. record { len = n; value = v }) same (sym (p .value) ∙ ap (λ n. valueFrom 0 (take n s)) same ∙ q .value)

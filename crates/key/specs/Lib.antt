@@ -2,3 +2,4 @@ pub mod Collected
 pub mod Examples
 pub mod Keys
 pub mod KeyOrder
+pub mod Leading

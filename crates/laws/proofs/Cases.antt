@@ -1,6 +1,6 @@
 -- Case splits that keep the test as an equation, and contradictions.
-use mathlib.Core.Path.{_≡_, refl}
-use mathlib.Core.Bool.{Bool, true, false, cond}
+use mathlib.Core.Path.{_≡_, refl, sym}
+use mathlib.Core.Bool.{Bool, true, false, cond, _&&_}
 use Prim.Native.Nat.{ℕ, _≤_, _<_}
 use native.Mathlib.Decide.{decLt}
 use native.Mathlib.Omega.{arith}
@@ -30,3 +30,8 @@ true-false e = let z : _≡_ {A = ℕ} 0 1 = cc in absurd (omega arith)
 pub both : (b c : Bool) → cond b c false ≡ true → (b ≡ true) × (c ≡ true)
 both true c e = (refl, e)
 both false c e = let f : true ≡ false = cc in true-false f
+
+-- Both halves of a conjunction that holds.
+pub halves : (a b : Bool) → a && b ≡ true → (a ≡ true) × (b ≡ true)
+halves true b e = (refl, e)
+halves false b e = true-false (sym e)

@@ -2,7 +2,7 @@
 use mathlib.Core.Path.{_≡_, refl, sym, ap, _∙_}
 use mathlib.Core.Bool.{true, cond}
 use mathlib.Core.List.{List, [], _∷_, _++_}
-use Prim.Native.Nat.{ℕ, zero, suc, _+_, _-_, _*_, _/_, _%_, _≤_, _<_}
+use Prim.Native.Nat.{ℕ, zero, suc, _+_, _/_, _%_, _≤_, _<_}
 use native.Mathlib.Omega.{arith}
 use borrow.Author.Tests.{lt-ltb, le-ltb, le-leb}
 use lib.Dec.{ltb}
@@ -10,6 +10,7 @@ use lib.ListN.{length, drop, getD, length-append, drop-of-length-le}
 use Rattle.laws.proofs.Cases.{below}
 use Rattle.laws.proofs.Lists.{drop-1}
 use Rattle.ascii.specs.Digits.{isDigit, allDigits, valueFrom}
+use Rattle.ascii.proofs.Digits.{digits-join, value-join}
 use Rattle.output.specs.Numbers.{decimalIn, decimal, hexDigit, hex}
 use Rattle.output.specs.Decimals.{DecimalOf, Decimals}
 use Rattle.output.specs.Output.{Page, Puts}
@@ -69,16 +70,6 @@ pub puts-digits : {p p₁ p₂ : Page} (n : ℕ) → 10 ≤ n → Puts (decimal 
 puts-digits n h e f = puts-same (puts-then e f) (sym (decimal-more n h))
 
 -- The digits are those of the number in base ten: one more at the end, and all of them.
-value-last : (s : List ℕ) (v d : ℕ) → valueFrom v (s ++ (d ∷ [])) ≡ valueFrom v s * 10 + (d - 48)
-unfolding valueFrom
-value-last [] v d = refl
-value-last (b ∷ s) v d = value-last s (v * 10 + (b - 48)) d
-
-digits-last : (s : List ℕ) (d : ℕ) → isDigit d ≡ true → allDigits (s ++ (d ∷ [])) ≡ allDigits s
-unfolding allDigits
-digits-last [] d e = rw e
-digits-last (b ∷ s) d e = rw (digits-last s d e)
-
 first-before : (s : List ℕ) (d : ℕ) → 48 < getD s 0 0 → 48 < getD (s ++ (d ∷ [])) 0 0
 first-before [] d h = absurd (omega arith)
 first-before (b ∷ s) d h = h
@@ -97,10 +88,11 @@ one-digit n h =
     }
 
 more-digits : (n : ℕ) {front : List ℕ} → 10 ≤ n → DecimalOf (n / 10) front → DecimalOf n (front ++ ((48 + n % 10) ∷ []))
+unfolding allDigits valueFrom
 more-digits n {front} h d =
     record {
-      digits = digits-last front (48 + n % 10) (last-digit n) ∙ d .digits;
-      value = value-last front 0 (48 + n % 10) ∙ omega (arith, d .value);
+      digits = rw (digits-join front, d .digits, last-digit n);
+      value = value-join 0 front ((48 + n % 10) ∷ []) ∙ omega (arith, d .value);
       ofZero = λ e. absurd (omega arith);
       unpadded = λ k. first-before front (48 + n % 10) (d .unpadded (omega arith));
     }

@@ -1,5 +1,5 @@
 -- The root: a pair with a key or without, and the loop over pairs.
-use Prim.Native.Nat.{ℕ, zero, suc, _+_, _-_, _≤_, _<_}
+use Prim.Native.Nat.{ℕ, zero, suc, _+_, _-_, _≤_}
 use mathlib.Core.Path.{_≡_, refl, sym, ap, _∙_, subst}
 use mathlib.Core.Bool.{Bool, true, false, not, _&&_}
 use mathlib.Core.List.{List, [], _∷_}
@@ -10,18 +10,18 @@ use lib.Dec.{eqb, ltb}
 use lib.ListN.{length}
 use Rattle.laws.proofs.Cases.{true-false}
 use Rattle.config.specs.declared.Config.{Config}
-use Rattle.key.specs.declared.KeyKind.{KeyKind}
 use Rattle.key.specs.Keys.{Key}
 use Rattle.key.specs.Collected.{collected, keyIn}
 use Rattle.refusals.specs.declared.Refusal.{Refusal}
 use Rattle.reading.specs.Scanning.{Target, root, rootKey, finish, Step, skip, _then_}
 use Rattle.reading.specs.Running.{Answer, refusedAt}
 use Rattle.cursor.specs.declared.taking.Cursor.{Cursor}
-use Rattle.cursor.specs.declared.taking.Taken.{Taken}
+use Rattle.cursor.specs.declared.collecting.CollectedKey.{CollectedKey}
 use Rattle.cursor.specs.declared.scanning.Until.the-variants.{Value as ValueScan, RootKey}
 use Rattle.cursor.specs.Segments.{segment}
 use Rattle.cursor.specs.Takings.{yielded}
-use Rattle.cursor.specs.Scans.{stops, Scan, Scanned}
+use Rattle.cursor.specs.Scans.{stops, Scan}
+use Rattle.cursor.specs.Collected.{KeyTaken}
 use Rattle.cursor.proofs.Takings.{took-inside}
 use Rattle.cursor.proofs.From.{from-none}
 use Rattle.cursor.proofs.Segments.{length-segment}
@@ -68,26 +68,21 @@ root-move {config} {s} {W} {X} {h} {h′} {i} q due′ e =
     record { moves = λ o a y. subst (λ (z : Here). Reads config s o (moment W X z i) due′ a) (sym q) (root-reads due′ e y) }
 
 -- What `root_key` answers.
-pub root-scanned : {config : Config} {s : List ℕ} {cursor : Cursor} {taken : Taken} {nests : Bool} {h root : Here} {i : ℕ} {key : KeyKind}
-    → Scanned (RootKey nests) config s cursor taken → nests ≡ not (eqb (config .depth) 0)
-    → (cursor .place ≡ i) × (cursor .start ≡ i) × (cursor .end ≡ i) → root ≡ rootOf h
-    → keyIn key (segment s (taken .cursor .start) (taken .cursor .end)) ≡ collected config (segment s (taken .cursor .start) (taken .cursor .end))
-    → RootScanned config s h i (record { here = root; level = 0; key = key; segment = taken .cursor; taken = taken })
-root-scanned {config} {s} {cursor} {taken} {nests} {i = i} g n p q k =
+pub root-scanned : {config : Config} {s : List ℕ} {found : CollectedKey} {nests : Bool} {h root : Here} {i : ℕ}
+    → KeyTaken (RootKey nests) config s i found → nests ≡ not (eqb (config .depth) 0) → root ≡ rootOf h
+    → RootScanned config s h i
+    (record { here = root; level = 0; key = found .key; segment = found .taken .cursor; taken = found .taken })
+root-scanned {config} {s} {found} {i = i} g n q =
+    let taken = found .taken in
     record {
       root = q;
       level = refl;
       own = refl;
-      start = g .start ∙ p .1;
-      scan = subst (λ (b : Bool). Scan (RootKey b) config s i (taken .cursor .end) (yielded (taken .symbol)) (taken .cursor .place)) n
-          (subst (λ (a : ℕ). Scan (RootKey nests) config s a (taken .cursor .end) (yielded (taken .symbol)) (taken .cursor .place)) (p .0) (g .scan));
-      key = k;
+      start = g .start;
+      scan = subst (λ (b : Bool). Scan (RootKey b) config s i (taken .cursor .end) (yielded (taken .symbol)) (taken .cursor .place)) n (g .scan);
+      key = subst (λ (a : ℕ). keyIn (found .key) (segment s a (taken .cursor .end)) ≡ collected config (segment s a (taken .cursor .end)))
+          (sym (g .start)) (g .key);
     }
-
-pub root-collects : {config : Config} {s : List ℕ} {cursor : Cursor} {taken : Taken} {nests : Bool} {i : ℕ}
-    → Scanned (RootKey nests) config s cursor taken → (cursor .place ≡ i) × (cursor .start ≡ i) × (cursor .end ≡ i)
-    → (taken .cursor .start ≤ taken .cursor .end) × (taken .cursor .end ≤ length s)
-root-collects g p = let b = scan-bounds (g .scan) in (omega (arith, b .long, g .start, p .0, p .1), b .inside)
 
 -- Nothing is scanned, or something.
 pub nothing-same : (a b : ℕ) {x y : Bool} → a ≡ b → x ≡ y → x ≡ (eqb a b && y)

@@ -17,10 +17,8 @@ use crate::turning::ScannedKey;
 use crate::turning::Turn;
 use config::Config;
 use cursor::Until;
-use cursor::collect_key;
-use cursor::cursor_at;
 use cursor::ends_scan;
-use cursor::take_until;
+use cursor::take_key;
 use tree::Here;
 
 // Whether a `[` after a root key opens brackets.
@@ -47,14 +45,10 @@ fn root_key(input: &[u8], config: Config, here: Here, index: usize) -> ScannedKe
     requires { ⌜ index ≤ length (now input) ⌝ }
     ensures { λ r. ⌜ RootScanned config (now (input .entry)) here index r ⌝ }
 {
-    let taken = take_until(
-        input,
-        config,
-        Until::RootKey(nests(config)),
-        cursor_at(index),
-    );
+    let found = take_key(input, config, Until::RootKey(nests(config)), index);
+    let taken = found.taken;
     let segment = taken.cursor;
-    let key = collect_key(input, config, segment);
+    let key = found.key;
     let root = root_of(here);
     ScannedKey {
         here: root,

@@ -113,6 +113,32 @@ others =
     test defaults (records 2 - 1) 12 "a" (refuses 14 2) ∷
     test defaults (records 1 - 1) 12 "a" (untouched 3) ∷
     test (atDepth 65) (records 1 - 1) 12 "a" (untouched 1) ∷
+    -- Keys of digits: an Int takes no text; one that is too large does, and doesn't wrap to a small number. Zeros in
+    -- front don't count; `/` and `:` stand beside the digits.
+    test defaults (records 2) 0 "4294967295" (holds (mapRow noKey 1 0 ∷ noValueRow (int 4294967295) 0 ∷ []) "") ∷
+    test defaults (records 2) 9 "4294967296" (refuses 15 11) ∷
+    test defaults (records 2) 0 "00000000000000000000000000000000000000007"
+    (holds (mapRow noKey 1 0 ∷ noValueRow (int 7) 0 ∷ []) "") ∷
+    test defaults (records 2) 50 "00000000000000000000000000000000000000004294967296"
+    (holds (mapRow noKey 1 0 ∷ noValueRow (str 0 50) 0 ∷ []) "00000000000000000000000000000000000000004294967296") ∷
+    usual "4294967303" (holds (mapRow noKey 1 0 ∷ noValueRow (str 0 10) 0 ∷ []) "4294967303") ∷
+    test defaults (records 2) 20 "18446744073709551623"
+    (holds (mapRow noKey 1 0 ∷ noValueRow (str 0 20) 0 ∷ []) "18446744073709551623") ∷
+    usual "/1=v" (holds (mapRow noKey 1 0 ∷ stringRow (str 0 2) 2 1 0 ∷ []) "/1v") ∷
+    usual "1:=v" (holds (mapRow noKey 1 0 ∷ stringRow (str 0 2) 2 1 0 ∷ []) "1:v") ∷
+    -- The same in brackets; and at the depth, where the brackets belong to the key.
+    usual "a[00000000000000000000000000000000000000007]=v"
+    (holds (mapRow noKey 1 0 ∷ mapRow (str 0 1) 2 0 ∷ stringRow (int 7) 1 1 0 ∷ []) "av") ∷
+    usual "a[4294967295]" (holds (mapRow noKey 1 0 ∷ mapRow (str 0 1) 2 0 ∷ noValueRow (int 4294967295) 0 ∷ []) "a") ∷
+    usual "a[4294967296]"
+    (holds (mapRow noKey 1 0 ∷ mapRow (str 0 1) 2 0 ∷ noValueRow (str 1 10) 0 ∷ []) "a4294967296") ∷
+    usual "a[1/]=v" (holds (mapRow noKey 1 0 ∷ mapRow (str 0 1) 2 0 ∷ stringRow (str 1 2) 3 1 0 ∷ []) "a1/v") ∷
+    usual "a[:1]=v" (holds (mapRow noKey 1 0 ∷ mapRow (str 0 1) 2 0 ∷ stringRow (str 1 2) 3 1 0 ∷ []) "a:1v") ∷
+    test (atDepth 1) (records 6) 12 "a[b][7]=v"
+    (holds (mapRow noKey 1 0 ∷ mapRow (str 0 1) 2 0 ∷ mapRow (str 1 1) 3 0 ∷ stringRow (str 2 3) 5 1 0 ∷
+    []) "ab[7]v") ∷
+    test (atDepth 0) (records 6) 12 "7=v" (holds (mapRow noKey 1 0 ∷ stringRow (int 7) 0 1 0 ∷ []) "v") ∷
+    test (atDepth 0) (records 6) 12 "7[0]=v" (holds (mapRow noKey 1 0 ∷ stringRow (str 0 4) 4 1 0 ∷ []) "7[0]v") ∷
     -- n + 1 records and n text bytes are needed.
     test defaults (records 2) 1 "a" (holds (mapRow noKey 1 0 ∷ noValueRow (str 0 1) 0 ∷ []) "a") ∷
     test defaults (records 2 - 1) 1 "a" (refuses 14 2) ∷

@@ -1,15 +1,15 @@
 -- What stands in so many columns: spaces, bytes as they are shown, digits, letters.
 use mathlib.Core.Path.{_≡_, refl, sym, ap, ap₂, _∙_}
-use mathlib.Core.Bool.{Bool, true, false, _&&_}
+use mathlib.Core.Bool.{true}
 use mathlib.Core.List.{List, [], _∷_, _++_, map, append-nil}
 use Prim.Native.Nat.{ℕ, zero, suc, _+_, _-_, _^_, _≤_, _<_}
 use native.Mathlib.Omega.{arith}
-use borrow.Author.Tests.{le-leb, lt-leb, leb-true}
-use lib.Dec.{leb}
+use borrow.Author.Tests.{le-leb, lt-leb}
 use lib.ListN.{length, take, drop, getD, length-replicate, drop-of-length-le}
-use Rattle.laws.proofs.Cases.{true-false}
+use Rattle.laws.proofs.Cases.{halves}
 use Rattle.laws.proofs.Lists.{drop-1}
 use Rattle.ascii.specs.Digits.{isDigit, allDigits}
+use Rattle.ascii.proofs.Digits.{digit-is}
 use Rattle.output.specs.Numbers.{decimal}
 use Rattle.output.specs.Output.{filled}
 use Rattle.output.proofs.Digits.{decimals}
@@ -58,19 +58,13 @@ unfolding fitted
 fitted-cut wide s h = let e : wide - 1 - 0 ≡ wide - 1 = omega arith in rw (e, lt-leb (length s) wide h)
 
 -- Digits are shown as they are.
-digit-same : (b : ℕ) (s : List ℕ) → isDigit b && allDigits s ≡ true → (visible b ≡ b) × (allDigits s ≡ true)
-digit-same b s = go (leb 48 b) (leb b 57) (allDigits s) (leb-true 48 b) (leb-true b 57)
-  where
-    go : (p q r : Bool) → (p ≡ true → 48 ≤ b) → (q ≡ true → b ≤ 57) → p && q && r ≡ true → (visible b ≡ b) × (r ≡ true)
-    go true true true f g e = (sym (visible-same b (omega (arith, f refl)) (omega (arith, g refl))), refl)
-    go true true false f g e = true-false (sym e)
-    go true false r f g e = true-false (sym e)
-    go false q r f g e = true-false (sym e)
-
 pub digits-same : (s : List ℕ) → allDigits s ≡ true → map visible s ≡ s
 unfolding allDigits
 digits-same [] e = refl
-digits-same (b ∷ s) e = let h = digit-same b s e in ap₂ _∷_ (h .0) (digits-same s (h .1))
+digits-same (b ∷ s) e =
+    let p = halves (isDigit b) (allDigits s) e in
+    let d = digit-is b (p .0) in
+    ap₂ _∷_ (sym (visible-same b (omega (arith, d .0)) (omega (arith, d .1)))) (digits-same s (p .1))
 
 -- A number at the left of as many columns as any has digits, and one at the right.
 pub fitted-number : (wide n used : ℕ) → 10 ≤ wide → n < 2 ^ 32 → used ≡ length (decimal n) → decimal n ++ blanks (wide - used) ≡ fitted wide (decimal n)

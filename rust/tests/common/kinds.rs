@@ -16,8 +16,8 @@ const fn kind(name: &'static str, make: fn(usize) -> Vec<u8>) -> Kind {
     Kind { name, depth, make }
 }
 
-/// Tickets as they come: flat, nested, escaped, with lists.
-pub const USUAL: [Kind; 15] = [
+/// Tickets as they come: flat, nested, escaped, with lists of values and of pages.
+pub const USUAL: [Kind; 20] = [
     kind("flat, rising", |length| flat(length, orders::rising)),
     kind("flat, shuffled", |length| flat(length, orders::shuffled)),
     kind("flat, falling", |length| flat(length, orders::falling)),
@@ -54,6 +54,21 @@ pub const USUAL: [Kind; 15] = [
     }),
     kind("Ints, shuffled", |length| {
         ordered(length, 8, orders::shuffled, |i| format!("{i}=v"))
+    }),
+    kind("pages 0=v&1=v", |length| {
+        pairs(length, |i| format!("{i}=v"))
+    }),
+    kind("pages p[0]=v&p[1]=v", |length| {
+        pairs(length, |i| format!("p[{i}]=v"))
+    }),
+    kind("pages of forty digits", |length| {
+        pairs(length, |i| format!("{i:040}=v"))
+    }),
+    kind("pages of forty digits in brackets", |length| {
+        pairs(length, |i| format!("p[{i:040}]=v"))
+    }),
+    kind("forty digits, too large", |length| {
+        pairs(length, |i| format!("1{i:039}=v"))
     }),
     kind("ampersands", |length| vec![b'&'; length]),
 ];

@@ -1,7 +1,7 @@
 -- A digit is from `0` to `9`, so taking `0` from it never falls below zero and leaves at most 9.
 use mathlib.Core.Path.{refl}
 use native.Mathlib.Omega.{arith}
-use Rattle.head.proofs.Heads.{digit-bounds}
+use Rattle.ascii.proofs.Digits.{digit-bounds}
 use Rattle.head.proofs.digit_at.Statement.{statement}
 use Rattle.head.proofs.digit_at.Tie as tie
 

@@ -4,7 +4,7 @@ use native.Mathlib.Omega.{arith}
 use borrow.Author.Needs.{needs}
 use borrow.Author.Tests.{ltb-true, lt-ltb, le-ltb}
 use lib.Dec.{ltb}
-use Rattle.decode.proofs.Agree.{halves}
+use Rattle.laws.proofs.Cases.{halves}
 use Rattle.decode.proofs.writing.percent_of.Statement.{statement}
 use Rattle.decode.proofs.writing.percent_of.Tie as tie
 

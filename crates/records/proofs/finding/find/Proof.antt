@@ -1,6 +1,5 @@
--- WHY
-use Rattle.aids.proofs.Keeps.{kept-refl}
 -- By the walk where there are no aids, else by the slot or further.
+use Rattle.aids.proofs.Keeps.{kept-refl}
 use mathlib.Core.Path.{_∙_}
 use Rattle.records.proofs.Finds.{tell}
 use borrow.Author.Needs.{needs}

@@ -2,7 +2,7 @@
 use mathlib.Core.Path.{_∙_}
 use native.Mathlib.Omega.{arith}
 use borrow.Author.Tests.{ltb-true}
-use Rattle.decode.proofs.Agree.{halves}
+use Rattle.laws.proofs.Cases.{halves}
 use Rattle.tags.proofs.Heads.{are-bytes}
 use Rattle.records.proofs.Tagged.{tagged-kind, tagged-differ, tagged-int, tagged-short, tagged-string}
 use borrow.Author.Needs.{needs}

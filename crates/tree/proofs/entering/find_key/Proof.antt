@@ -1,6 +1,5 @@
--- WHY
-use native.Mathlib.Omega.{arith}
 -- What is looked for is the key that is meant, whether it is laid or not.
+use native.Mathlib.Omega.{arith}
 use Rattle.aids.proofs.Keeps.{kept-refl}
 use Rattle.tree.proofs.Seeks.{lain-inside, key-fits, again-laid, asked-laid, found-laid, asked-raw, found-raw}
 use borrow.Author.Needs.{needs}
