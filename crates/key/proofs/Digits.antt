@@ -21,8 +21,11 @@ use Rattle.key.specs.Keys.{int, str, maxInt, isInt}
 use Rattle.key.specs.Collected.{key, collected, keyIn}
 use Rattle.key.specs.Leading.{LongestInt, OneLongest, Tells}
 
--- The test of a byte, which is true of one that is no digit.
-digit-test : (b : ℕ) → isDigit b ≡ not (ltb b 48 || ltb 57 b)
+-- The code's test of a byte, which is true of one that is no digit.
+abbrev outside : ℕ → Bool
+outside b = ltb b 48 || ltb 57 b
+
+digit-test : (b : ℕ) → isDigit b ≡ not (outside b)
 digit-test b =
     below b 48 (λ h. rw (lt-leb 48 b h, lt-ltb b 48 h))
     (λ h. below 57 b (λ k. rw (le-leb 48 b h, lt-leb b 57 k, le-ltb b 48 h, lt-ltb 57 b k))
@@ -65,13 +68,13 @@ module _ {s : List ℕ} {i v : ℕ} (r : Summed s i v) where
     unfolding valueFrom
     value-on = rw (front s i n h k, value-join 0 (take i s), r .value)
 
-  is-digit : (ltb (getD s i 0) 48 || ltb 57 (getD s i 0)) ≡ false → isDigit (getD s i 0) ≡ true
+  is-digit : outside (getD s i 0) ≡ false → isDigit (getD s i 0) ≡ true
   is-digit e = digit-test (getD s i 0) ∙ ap not e
 
-  pub digit-here : (ltb (getD s i 0) 48 || ltb 57 (getD s i 0)) ≡ false → (48 ≤ getD s i 0) × (getD s i 0 ≤ 57)
+  pub digit-here : outside (getD s i 0) ≡ false → (48 ≤ getD s i 0) × (getD s i 0 ≤ 57)
   digit-here e = digit-is (getD s i 0) (is-digit e)
 
-  pub summed-more : i < length s → (ltb (getD s i 0) 48 || ltb 57 (getD s i 0)) ≡ false → v * 10 + (getD s i 0 - 48) ≤ maxInt
+  pub summed-more : i < length s → outside (getD s i 0) ≡ false → v * 10 + (getD s i 0 - 48) ≤ maxInt
       → Summed s (i + 1) (v * 10 + (getD s i 0 - 48))
   unfolding allDigits valueFrom
   summed-more h d m =
@@ -92,7 +95,7 @@ module _ {s : List ℕ} {i v : ℕ} (r : Summed s i v) where
     pub longest-whole : length s ≤ i → LongestInt config s (record { len = i; value = v })
     longest-whole h = longest-here (λ n k l. absurd (omega arith))
 
-    pub longest-byte : (ltb (getD s i 0) 48 || ltb 57 (getD s i 0)) ≡ true → LongestInt config s (record { len = i; value = v })
+    pub longest-byte : outside (getD s i 0) ≡ true → LongestInt config s (record { len = i; value = v })
     longest-byte e =
         let d : isDigit (getD s i 0) ≡ false = digit-test (getD s i 0) ∙ ap not e in longest-here (λ n h k. rw (digits-on n h k, d))
 

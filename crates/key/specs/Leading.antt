@@ -1,4 +1,4 @@
--- One pass over the bytes that a key begins with: the longest Int there.
+-- Document 02, R-3, over document 01, 'A key': one pass over the bytes that a key begins with, and what it tells.
 use Prim.Native.Nat.{ℕ, _≤_, _<_}
 use mathlib.Core.Path.{_≡_}
 use mathlib.Core.Bool.{true, false}
@@ -11,8 +11,8 @@ use Rattle.key.specs.declared.LeadingInt.{LeadingInt}
 use Rattle.key.specs.Keys.{isInt}
 use Rattle.key.specs.Collected.{collected, keyIn}
 
--- The first bytes, as many as there are digits, are an Int of that value; and no longer part at the front is one. (No
--- bytes at all count as an Int of value 0 here; they are no key.)
+-- The longest Int in front: the first bytes, as many as it has digits, are an Int of that value, and no longer part in
+-- front is one. (No bytes at all count as an Int of value 0 here; they are no key.)
 pub record LongestInt (config : Config) (s : List ℕ) (leading : LeadingInt) : Type 0 where
   pub within : leading .len ≤ length s
   pub int : isInt config (take (leading .len) s) ≡ true
