@@ -19,6 +19,8 @@
  *   and of a text or at each element's turn: 20 its index is missing, 18 it is of the wrong kind, 19 several values, 21 not UTF-8
  * and of a sheet once the reading is accepted, with place 0:
  *   23 a page of fewer than QS_SHEET_LINE bytes for each record used
+ * and of a writing once the reading is accepted, with place 0:
+ *   26 a written ticket of more bytes than the output holds or than QS_MAX_INPUT
  * and of a list of names before anything is read, also before 1:
  *   24 an end of a name that is below the one before it or above the names' length
  *   25 fewer than QS_ANSWER_WORDS words lent for each name's answer
@@ -49,6 +51,8 @@ extern "C" {
 #define QS_SHEET_LINE 73
 /* The words of a name's answer: number, offset and length. */
 #define QS_ANSWER_WORDS 3
+/* The bytes of output that suffice for whatever qs_write can write of n bytes of input. */
+#define QS_WRITE_ROOM(n) ((n) < QS_MAX_INPUT / 3 ? 3 * (n) + 2 : QS_MAX_INPUT)
 
 /* What a reading answers. */
 struct qs_reading {
@@ -66,6 +70,15 @@ struct qs_field_read {
     uint32_t bytes;
     uint32_t offset;  /* qs_text: where the field's bytes start in text; qs_list: 0 */
     uint32_t length;  /* qs_text: how many bytes; qs_list: how many elements. Both are 0 under every number but 0 */
+};
+
+/* What a writing answers: the reading's answer, and the written ticket's length. */
+struct qs_written {
+    uint32_t number;  /* as of a reading, or 26 with place 0 and the reading's counts */
+    uint32_t place;
+    uint32_t records;
+    uint32_t bytes;
+    uint32_t length;  /* the bytes of the written ticket; 0 under every number but 0 */
 };
 
 /*
@@ -124,6 +137,18 @@ struct qs_reading qs_fields(uint32_t depth, uint32_t form, uint32_t duplicates, 
  */
 struct qs_reading qs_sheet(uint32_t depth, uint32_t form, const uint8_t *input, size_t input_len, uint32_t *records,
                            size_t records_len, uint8_t *text, size_t text_len, uint8_t *page, size_t page_len);
+
+/*
+ * Reads a query string as qs_parse does, and then writes its tree into out as a query string again: read at the same depth and form
+ * with as many records and as much text as are used, it gives that tree. It has one pair for each single value, an '&' between two,
+ * in the order of keys but an empty key last in its map; of an uninitialized root it is a lone '&', and of an empty input it is
+ * empty. A space is written as '+'. The bytes %+&=[] are written as lower-case escapes, and so is the first digit of a string key
+ * that would be read as an integer; a key that has the brackets past the depth in it keeps its first '['. Other bytes stand as they
+ * are. The rest of out stays as it was, and all of it does under every number but 0. 26 leaves records and text as the reading left
+ * them.
+ */
+struct qs_written qs_write(uint32_t depth, uint32_t form, const uint8_t *input, size_t input_len, uint32_t *records,
+                           size_t records_len, uint8_t *text, size_t text_len, uint8_t *out, size_t out_len);
 
 #ifdef __cplusplus
 }

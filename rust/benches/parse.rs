@@ -1,8 +1,9 @@
-//! How long `qs_parse` takes beside the crate's own `parse`, `qs_text` and `qs_list` beside `qs_parse`, and `qs_fields` beside
-//! as many calls of `qs_text`, in one process:
+//! How long `qs_parse` takes beside the crate's own `parse`, `qs_text` and `qs_list` beside `qs_parse`, `qs_fields` beside
+//! as many calls of `qs_text`, and the writing of `qs_write` beside its reading, in one process:
 //!
 //!     rust/cargo.sh bench
 //!     rust/cargo.sh bench --bench parse -- falling 40000
+//!     rust/cargo.sh bench --bench parse -- written
 //!
 //! A number asks for inputs of so many bytes instead of the usual sizes, and other words for the kinds that have one of
 //! them in their name.
@@ -44,7 +45,12 @@ const MANY_ALONE: &str = "
 qs_fields of 20 names against qs_parse of the same input: what is above 1 is that of the names.
 ";
 
-/// The usual sizes, those for many names, and the two that tell the growth.
+const WRITTEN: &str = "
+qs_write without its reading: its time less that of qs_parse of the same input, against that time. Kinds whose written ticket is
+too long at one of the sizes are left out.
+";
+
+/// The usual sizes, those for many names, and the two that tell the growth, which are those for writing too.
 const SIZES: [usize; 4] = [1_000, 20_000, 40_000, 65_535];
 const MANY_SIZES: [usize; 2] = [2_000, 40_000];
 const GROWTH: [usize; 2] = [20_000, 40_000];
@@ -83,6 +89,21 @@ fn main() {
             asked.map(|(name, make)| (*name, move |length| against(Many::new(make(length))))),
         );
     }
+    let sizes = wanted.sizes(&GROWTH);
+    let fits = |kind: &&Kind| {
+        sizes
+            .iter()
+            .all(|&length| Writing::new(kind, length).fits())
+    };
+    let written = WRITTEN_KINDS.iter().chain(kinds()).filter(fits);
+    wanted.table(
+        WRITTEN,
+        &GROWTH,
+        written.map(|kind| {
+            let name = format!("written, {}", kind.name);
+            (name, |length| Writing::new(kind, length).times())
+        }),
+    );
 }
 
 /// What the arguments ask for; without sizes it is the usual ones.
@@ -105,21 +126,27 @@ impl Wanted {
         self.names.is_empty() || self.names.iter().any(|word| name.contains(word.as_str()))
     }
 
+    /// The sizes that are wanted.
+    fn sizes<'a>(&'a self, usual: &'a [usize]) -> &'a [usize] {
+        match self.sizes.is_empty() {
+            true => usual,
+            false => &self.sizes,
+        }
+    }
+
     /// A row for each thing that is wanted: its name, and for a length our time and the other's.
-    fn table<T: Fn(usize) -> Times>(
+    fn table<N: AsRef<str>, T: Fn(usize) -> Times>(
         &self,
         head: &str,
         usual: &[usize],
-        things: impl Iterator<Item = (&'static str, T)>,
+        things: impl Iterator<Item = (N, T)>,
     ) {
-        let mut things = things.filter(|(name, _)| self.wants(name)).peekable();
+        let wanted = |(name, _): &(N, T)| self.wants(name.as_ref());
+        let mut things = things.filter(wanted).peekable();
         if things.peek().is_none() {
             return;
         }
-        let sizes = match self.sizes.is_empty() {
-            true => usual,
-            false => &self.sizes,
-        };
+        let sizes = self.sizes(usual);
         let columns: String = sizes
             .iter()
             .map(|size| format!(" {size}: µs | ratio |"))
@@ -129,7 +156,7 @@ impl Wanted {
             "---|---|".repeat(sizes.len())
         );
         for (name, times) in things {
-            println!("{}", row(name, sizes, times));
+            println!("{}", row(name.as_ref(), sizes, times));
         }
     }
 }
@@ -388,4 +415,77 @@ fn against_texts(mut many: Many) -> Times {
 fn against_parse(mut many: Many) -> Times {
     let input = many.input.clone();
     Times::least(|| many.fields(), alone(&input))
+}
+
+/// What has to be escaped when it is written, beside the usual kinds, which have little of it.
+const WRITTEN_KINDS: [Kind; 3] = [
+    Kind {
+        name: "escapes that stay",
+        depth: 5,
+        make: |length| {
+            let value = "%26%3D%5B%5D%25%2B".repeat(20);
+            pairs(length, |i| format!("k{i}={value}"))
+        },
+    },
+    Kind {
+        name: "digits of String keys",
+        depth: 5,
+        make: |length| pairs(length, |i| format!("%3{}{i:05}=v", i % 10)),
+    },
+    Kind {
+        name: "keys at the depth",
+        depth: 1,
+        make: |length| pairs(length, |i| format!("a[b][{i:05}=v")),
+    },
+];
+
+/// An input of a kind, and what is lent to `qs_write`.
+struct Writing {
+    config: Config,
+    input: Vec<u8>,
+    records: Vec<u32>,
+    text: Vec<u8>,
+    out: Vec<u8>,
+}
+
+impl Writing {
+    fn new(kind: &Kind, length: usize) -> Self {
+        let input = (kind.make)(length);
+        let (records, text) = qs::buffers(input.len());
+        let (depth, form) = (kind.depth, false);
+        Writing {
+            config: Config { depth, form },
+            out: vec![0; qs::write_room(input.len())],
+            input,
+            records,
+            text,
+        }
+    }
+
+    fn number(&mut self) -> u32 {
+        let input = black_box(&self.input[..]);
+        let (records, text) = (&mut self.records, &mut self.text);
+        let written = qs::write(self.config, input, records, text, &mut self.out);
+        written.reading.number
+    }
+
+    /// Whether the ticket isn't too long.
+    fn fits(mut self) -> bool {
+        self.number() == refusal::ACCEPTED
+    }
+
+    /// The writing alone, and the reading alone.
+    fn times(mut self) -> Times {
+        let input = self.input.clone();
+        let (config, (mut records, mut text)) = (self.config, qs::buffers(input.len()));
+        let Times { ours, other } = Times::least(
+            || assert_eq!(self.number(), refusal::ACCEPTED),
+            || {
+                let reading = qs::parse(config, black_box(&input), &mut records, &mut text);
+                assert_eq!(reading.number, refusal::ACCEPTED);
+            },
+        );
+        let ours = ours.saturating_sub(other);
+        Times { ours, other }
+    }
 }

@@ -13,7 +13,7 @@ pub mod row;
 
 /// The library's exports as C sees them: a slice is a pointer and then a count of elements.
 mod c {
-    use super::{FieldRead, Reading};
+    use super::{FieldRead, Reading, Written};
 
     extern "C" {
         pub fn qs_decode(raw: *const u8, raw_len: usize, out: *mut u8, out_len: usize) -> i64;
@@ -85,6 +85,18 @@ mod c {
             page: *mut u8,
             page_len: usize,
         ) -> Reading;
+        pub fn qs_write(
+            depth: u32,
+            form: u32,
+            input: *const u8,
+            input_len: usize,
+            records: *mut u32,
+            records_len: usize,
+            text: *mut u8,
+            text_len: usize,
+            out: *mut u8,
+            out_len: usize,
+        ) -> Written;
     }
 }
 
@@ -152,12 +164,12 @@ impl Default for Config {
 }
 
 /// What a reading answers: `number` is 0 where it was accepted, else the number of its [`refusal`], 1 to 15. Of a [`sheet`] it may also
-/// be 23, and then the reading itself was accepted; of [`fields_into`] 24 or 25, and then nothing was read.
+/// be 23, of a [`write`] 26, and then the reading itself was accepted; of [`fields_into`] 24 or 25, and then nothing was read.
 #[repr(C)]
 #[derive(Clone, Copy, Debug, PartialEq, Eq)]
 pub struct Reading {
     pub number: u32,
-    /// Where a refusal was met: the bytes taken so far, the end counted as one; 0 where the reading was accepted, and under 23 to 25.
+    /// Where a refusal was met: the bytes taken so far, the end counted as one; 0 where the reading was accepted, and under 23 to 26.
     pub place: u32,
     /// The records and the bytes of text that are used; both 0 where the reading was refused, by 1 to 15, or there was none.
     pub records: u32,
@@ -553,6 +565,75 @@ pub fn sheet(
             text.len(),
             page.as_mut_ptr(),
             page.len(),
+        )
+    }
+}
+
+/// What a writing answers: the answer of the reading, and the written ticket's length. In C the reading's four numbers stand flat
+/// before it.
+#[repr(C)]
+#[derive(Clone, Copy, Debug, PartialEq, Eq)]
+pub struct Written {
+    /// Its number is 0 where the ticket was written; 1 to 15 where the reading was refused, 26 where the writing was.
+    pub reading: Reading,
+    /// The bytes of the written ticket; 0 under every number but 0.
+    pub length: u32,
+}
+
+/// The bytes of output that suffice for whatever [`write`] can write of an input of so many bytes: two more than three for each, and
+/// never more than [`Config::MAX_LEN`].
+///
+/// ```
+/// assert_eq!(qs::write_room(3), 11);
+/// assert_eq!(qs::write_room(40_000), qs::Config::MAX_LEN);
+/// ```
+pub const fn write_room(length: usize) -> usize {
+    if length < Config::MAX_LEN / 3 {
+        3 * length + 2
+    } else {
+        Config::MAX_LEN
+    }
+}
+
+/// Reads a query string as [`parse`] does, and then writes its tree into `out` as a query string again. Read with the same settings, and
+/// with as many records and as much text as are used, it gives that tree.
+///
+/// It has one pair for each single value, in the order of keys, but an empty key last in its map. A space is written as `+`, the
+/// bytes `%+&=[]` as lower-case escapes, and so is the first digit of a `String` key that would be read as an `Int`; a key that has
+/// the brackets past the depth in it keeps its first `[`. Other bytes stand as they are.
+///
+/// What `out` has past the written bytes is untouched, and all of it is where the number isn't 0. A ticket of more bytes than `out`
+/// holds, or than [`Config::MAX_LEN`], is refused (26) once the reading is accepted; records and text are left as the reading left
+/// them. [`write_room`] has what suffices.
+///
+/// ```
+/// let ((mut records, mut text), mut out) = (qs::buffers(13), [b'x'; 18]);
+/// let written = qs::write(qs::Config::default(), b"b=%2B&a=1&a=2", &mut records, &mut text, &mut out);
+/// assert_eq!((written.reading.number, written.reading.records, written.length), (0, 5, 17));
+/// assert_eq!(&out, b"a[]=1&a[]=2&b=%2bx");
+/// let written = qs::write(qs::Config::default(), b"b=%2B&a=1&a=2", &mut records, &mut text, &mut out[..16]);
+/// assert_eq!((written.reading.number, written.reading.records), (qs::refusal::SHORT_OUTPUT, 5));
+/// ```
+pub fn write(
+    config: Config,
+    input: &[u8],
+    records: &mut [u32],
+    text: &mut [u8],
+    out: &mut [u8],
+) -> Written {
+    // SAFETY: the slices live through the call, and `records`, `text` and `out` are lent to it alone.
+    unsafe {
+        c::qs_write(
+            config.depth,
+            config.form.into(),
+            input.as_ptr(),
+            input.len(),
+            records.as_mut_ptr(),
+            records.len(),
+            text.as_mut_ptr(),
+            text.len(),
+            out.as_mut_ptr(),
+            out.len(),
         )
     }
 }

@@ -1,7 +1,7 @@
 //! The numbers that a call answers, each with its name and its wording: document 01's refusals, and then document 02's, in the order
 //! of their numbers.
 //!
-//! They are those of the proved crate `refusals`. 26 to 28 are kept for calls to come; a new one is a line of the table.
+//! They are those of the proved crate `refusals`. 27 and 28 are kept for calls to come; a new one is a line of the table.
 
 use std::ops::RangeInclusive;
 
@@ -58,6 +58,7 @@ numbers! {
     SHORT_PAGE = 23: "too short a page was lent for the sheet"
     WRONG_ENDS = 24: "the end of a name is below the one before it or past the names"
     SHORT_ANSWERS = 25: "too few words were lent for the answers"
+    SHORT_OUTPUT = 26: "the written ticket is more than the output holds or than 65,535 bytes"
 }
 
 /// The refusals of a reading before the first byte: they leave every buffer as it was.
@@ -77,3 +78,6 @@ pub const OF_A_SHEET: RangeInclusive<u32> = SHORT_PAGE..=SHORT_PAGE;
 
 /// The refusals of a list of names, before the reading: they leave every buffer as it was.
 pub const OF_NAMES: RangeInclusive<u32> = WRONG_ENDS..=SHORT_ANSWERS;
+
+/// The refusal of a writing, once the reading is accepted: it leaves the output as it was.
+pub const OF_A_WRITING: RangeInclusive<u32> = SHORT_OUTPUT..=SHORT_OUTPUT;

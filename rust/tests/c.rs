@@ -1,7 +1,7 @@
 //! The exports as a C program calls them: include/qs.h compiles without a warning and has the Rust side's numbers, and
 //! tests/c/calls.c gets the answers that it states.
 
-use qs::{row, Config, FieldRead, Reading};
+use qs::{row, Config, FieldRead, Reading, Written};
 use std::mem::size_of;
 use std::path::{Path, PathBuf};
 use std::process::Command;
@@ -16,7 +16,7 @@ fn run(command: &mut Command) -> String {
 }
 
 /// The Rust side's numbers, defined for the C program to compare with the header's.
-fn numbers() -> [String; 7] {
+fn numbers() -> [String; 9] {
     [
         format!("-DRUST_RECORD_WORDS={}", row::WIDTH),
         format!("-DRUST_MAX_DEPTH={}", Config::MAX_DEPTH),
@@ -25,6 +25,8 @@ fn numbers() -> [String; 7] {
         format!("-DRUST_ANSWER_WORDS={}", qs::ANSWER_WORDS),
         format!("-DRUST_READING_SIZE={}", size_of::<Reading>()),
         format!("-DRUST_FIELD_READ_SIZE={}", size_of::<FieldRead>()),
+        format!("-DRUST_WRITTEN_SIZE={}", size_of::<Written>()),
+        format!("-DRUST_WRITE_ROOM={}", qs::write_room(21_844)),
     ]
 }
 

@@ -286,6 +286,38 @@ fn a_sheet_is_printed_as_it_is() {
 }
 
 #[test]
+fn a_ticket_is_written_byte_for_byte() {
+    let long = b"a=".repeat(32_767);
+    let written_long = [&b"a="[..], &b"a%3d".repeat(16_383)].concat();
+    let cases: [(&[u8], &[u8]); 11] = [
+        (
+            INPUT.as_bytes(),
+            b"7=z&bad=\xC3&h[]=10&h[]=9&n&title=Fog+at+dawn&w[0]=a&w[1]=b&x[y]=1",
+        ),
+        (b"", b""),
+        (b"&&", b"&"),
+        (b"=1&=2", b"[]=1&[]=2"),
+        (b"a[b]=1&a=2&a=3", b"a[b]=1&a=2&a=3"),
+        (b"%37=x&007", b"7&%37=x"),
+        (b"\xFF\x1B%00=%0A%26", b"\xFF\x1B\0=\n%26"),
+        // At the usual depth, and with the flag off.
+        (b"a[b][c][d][e][f][g][h]", b"a[b][c][d][e][f][g%5d%5bh%5d"),
+        (b"a%5Bb%5D", b"a%5bb%5d"),
+        (b"%&%", b"%25[]&%25[]"),
+        (&long[..32_768], &written_long[..2 + 4 * 16_383]),
+    ];
+    for (input, ticket) in cases {
+        let output = layout(&[b"--write", input]);
+        assert_eq!(output.status.code(), Some(0), "{}", input.escape_ascii());
+        assert!(output.stdout == ticket, "{}", input.escape_ascii());
+        assert_eq!(output.stderr, b"", "{}", input.escape_ascii());
+    }
+    let told = "layout: refused: the written ticket is more than the output holds or than 65,535 bytes (26)\n";
+    let refused = (Some(1), String::new(), told.to_owned());
+    assert_eq!(run(&["--write", &"]".repeat(21_846)]), refused);
+}
+
+#[test]
 fn a_refused_input_is_marked() {
     let told =
         "layout: refused: `[]` where a map is (6) at place 10\n  a[b]=1&a[]=2\n           ^\n";
@@ -293,15 +325,22 @@ fn a_refused_input_is_marked() {
         &["a[b]=1&a[]=2"][..],
         &["a[b]=1&a[]=2", "a", "b"],
         &["--sheet", "a[b]=1&a[]=2"],
+        &["--write", "a[b]=1&a[]=2"],
     ] {
         assert_eq!(run(arguments), (Some(1), String::new(), told.into()));
     }
     let long = "a".repeat(qs::Config::MAX_LEN + 1);
     let told = "layout: refused: the ticket is longer than 65,535 bytes (2)\n";
-    for arguments in [&[&long[..]][..], &[&long, "a", "b"], &["--sheet", &long]] {
+    for arguments in [
+        &[&long[..]][..],
+        &[&long, "a", "b"],
+        &["--sheet", &long],
+        &["--write", &long],
+    ] {
         assert_eq!(run(arguments), (Some(1), String::new(), told.into()));
     }
-    for arguments in [&[&b"\x1b\xFF["[..]][..], &[b"--sheet", b"\x1b\xFF["]] {
+    let ticket = &b"\x1b\xFF["[..];
+    for arguments in [&[ticket][..], &[b"--sheet", ticket], &[b"--write", ticket]] {
         let output = layout(arguments);
         assert_eq!(output.status.code(), Some(1));
         assert!(output.stderr.ends_with(b"\n  \\x1b\\xff[\n           ^\n"));
@@ -358,11 +397,14 @@ fn bad_usage_is_told_apart() {
         &["--segment", "a", "b"],
         &["--sheet"],
         &["--sheet", "a", "b"],
+        &["--write"],
+        &["--write", "a", "b"],
     ] {
         let (status, written, told) = run(arguments);
         assert_eq!((status, written.as_str()), (Some(2), ""));
         assert!(told.starts_with("usage: layout TICKET [NAME...]\n"));
         assert!(told.contains("\n       layout --sheet TICKET\n"));
+        assert!(told.contains("\n       layout --write TICKET\n"));
     }
 }
 
@@ -373,6 +415,7 @@ fn what_cannot_be_written_is_no_success() {
         &["a", "a"],
         &["--segment", "a"],
         &["--sheet", "a"],
+        &["--write", "a"],
     ] {
         let full = File::options()
             .write(true)

@@ -2,7 +2,7 @@
 //! words, which the model has for itself, the refusals and their wording, and where the fields of an answer lie for C. Those of
 //! include/qs.h are compared in tests/c.rs.
 
-use qs::{refusal, row, Config, FieldRead, Reading};
+use qs::{refusal, row, Config, FieldRead, Reading, Written};
 use std::collections::BTreeSet;
 use std::mem::transmute;
 
@@ -40,8 +40,8 @@ fn the_model_has_the_same_line_and_answer() {
     assert_eq!(qs::ANSWER_WORDS, model::ANSWER_WORDS);
 }
 
-/// The numbers go up from 0 without a gap, each with a wording of its own; the refusals are a reading's, a field's, a sheet's and then
-/// names'.
+/// The numbers go up from 0 without a gap, each with a wording of its own; the refusals are a reading's, a field's, a sheet's, names'
+/// and then a writing's.
 #[test]
 fn every_refusal_has_its_wording() {
     let count = refusal::ALL.len() as u32;
@@ -52,11 +52,12 @@ fn every_refusal_has_its_wording() {
     let refusals = refusal::OF_A_READING
         .chain(refusal::OF_A_FIELD)
         .chain(refusal::OF_A_SHEET)
-        .chain(refusal::OF_NAMES);
+        .chain(refusal::OF_NAMES)
+        .chain(refusal::OF_A_WRITING);
     assert!(refusals.eq(1..count));
 }
 
-/// The wordings of 1 and 2 name the limits.
+/// The wordings of 1, 2 and 26 name the limits.
 #[test]
 fn limits_are_worded() {
     let digits = |number| -> String {
@@ -65,9 +66,10 @@ fn limits_are_worded() {
     };
     assert_eq!(digits(refusal::TOO_DEEP), Config::MAX_DEPTH.to_string());
     assert_eq!(digits(refusal::TOO_LONG), Config::MAX_LEN.to_string());
+    assert_eq!(digits(refusal::SHORT_OUTPUT), Config::MAX_LEN.to_string());
 }
 
-/// A field read is six words for C, the reading's four first, in the order of include/qs.h.
+/// A field read is six words for C and a writing five, the reading's four first, in the order of include/qs.h.
 #[test]
 fn answers_lie_flat() {
     let reading = Reading {
@@ -81,8 +83,11 @@ fn answers_lie_flat() {
         offset: 5,
         length: 6,
     };
+    let written = Written { reading, length: 5 };
     // SAFETY: each is as long as its array, which the compiler checks, and holds nothing but u32.
     let four = unsafe { transmute::<Reading, [u32; 4]>(reading) };
     let six = unsafe { transmute::<FieldRead, [u32; 6]>(read) };
+    let five = unsafe { transmute::<Written, [u32; 5]>(written) };
     assert_eq!((four, six), ([1, 2, 3, 4], [1, 2, 3, 4, 5, 6]));
+    assert_eq!(five, [1, 2, 3, 4, 5]);
 }

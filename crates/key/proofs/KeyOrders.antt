@@ -137,3 +137,35 @@ bytes-same (a ∷ x) = rw (compare-self a) (bytes-same x)
 pub keys-same : (k : Key) → compareKeys k k ≡ Ordering·eq
 keys-same (int a) = compare-self a
 keys-same (str x) = bytes-same x
+
+-- Keys that stand equal are equal.
+no-eq : {A : Type 0} {o : Ordering} → o ≡ Ordering·lt → o ≡ Ordering·eq → A
+no-eq e f = let z : _≡_ {A = ℕ} 0 1 = cc in absurd (omega arith)
+
+no-gt : {A : Type 0} {o : Ordering} → o ≡ Ordering·gt → o ≡ Ordering·eq → A
+no-gt e f = let z : _≡_ {A = ℕ} 0 1 = cc in absurd (omega arith)
+
+equal-numbers : (a b : ℕ) → compare a b ≡ Ordering·eq → a ≡ b
+equal-numbers a b e = go (compared a b) e
+  where
+    go : {o : Ordering} → Compared a b o → o ≡ Ordering·eq → a ≡ b
+    go (less h) f = no-eq refl f
+    go (equal h) f = h
+    go (more h) f = no-gt refl f
+
+pub equal-bytes : (x y : List ℕ) → compareBytes x y ≡ Ordering·eq → x ≡ y
+equal-bytes [] [] e = refl
+equal-bytes [] (b ∷ y) e = no-eq refl e
+equal-bytes (a ∷ x) [] e = no-gt refl e
+equal-bytes (a ∷ x) (b ∷ y) e = go (compare a b) refl (equal-bytes x y)
+  where
+    go : (o : Ordering) → compare a b ≡ o → (compareBytes x y ≡ Ordering·eq → x ≡ y) → a ∷ x ≡ b ∷ y
+    go Ordering·lt q ih = no-eq refl (rw q at e)
+    go Ordering·eq q ih = let f : a ≡ b = equal-numbers a b q in let g : x ≡ y = ih (rw q at e) in cc
+    go Ordering·gt q ih = no-gt refl (rw q at e)
+
+pub equal-keys : (j k : Key) → compareKeys j k ≡ Ordering·eq → j ≡ k
+equal-keys (int a) (int b) e = ap int (equal-numbers a b e)
+equal-keys (int a) (str y) e = no-eq refl e
+equal-keys (str x) (int b) e = no-gt refl e
+equal-keys (str x) (str y) e = ap str (equal-bytes x y e)

@@ -24,9 +24,9 @@ use Rattle.cursor.specs.From.{from}
 use Rattle.cursor.proofs.From.{from-start}
 use Rattle.row.specs.Words.{recordCount}
 use Rattle.records.specs.Records.{recordFields, withRecord}
-use Rattle.records.specs.Adding.{unkeyed, childless}
+use Rattle.indexed.specs.Adding.{unkeyed, childless}
 use Rattle.records.proofs.Rows.{length-withWords}
-use Rattle.records.proofs.Keeping.{holds-kept}
+use Rattle.indexed.proofs.Keeping.{holds-kept}
 use Rattle.tree.specs.declared.Here.{Here}
 use Rattle.tree.specs.Stored.{Stores, clearedFrom}
 use Rattle.tree.proofs.Lays.{full-le}

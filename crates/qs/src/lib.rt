@@ -1,8 +1,8 @@
 // The functions exported to C and Rust, each a thin cover of a proved one; `rt staticlib qs` writes them to one
 // archive. A slice is passed as a pointer and the count of its elements. The definitions are those of the crates
 // below, in C's numbers (specs/Numbers, specs/Arguments).
-// Below it stand the reader (parse), field reads (de, fields), the sheet (print), decoding (decode), the test for UTF-8
-// (utf8), the settings (config) and the answer's struct (reading).
+// Below it stand the reader (parse), field reads (de, fields), the sheet (print), the writer (write), decoding
+// (decode), the test for UTF-8 (utf8), the settings (config) and the answer's struct (reading).
 ghost use mathlib.Core.Path.{_≡_};
 ghost use Rattle.decode.specs.Decoding.{answer, written};
 ghost use Rattle.utf8.specs.Test.{utf8};
@@ -10,6 +10,7 @@ ghost use Rattle.reading.specs.Reading.{reading};
 ghost use Rattle.de.specs.Reads.{textRead, listRead};
 ghost use Rattle.de.specs.FieldsReads.{fieldsRead};
 ghost use Rattle.print.specs.Printing.{printing};
+ghost use Rattle.write.specs.Writing.{writing};
 ghost use Rattle.qs.specs.Numbers.{lengthOrNo, oneOrZero, OneForUtf8};
 ghost use Rattle.qs.specs.Arguments.{settings, behavior};
 use config::Config;
@@ -17,6 +18,7 @@ use de::FieldRead;
 use decode::Decoded;
 use fields::DuplicateKeyBehavior;
 use reading::Reading;
+use write::Written;
 
 // Decodes `raw` into `out`: the decoded length, with the further bytes of `out` as they were; or -1 where the decoded
 // bytes don't fit, with `out` unchanged.
@@ -171,4 +173,28 @@ pub extern "C" fn qs_sheet(
         (now (page .entry)) ⌝ }
 {
     print::print_sheet(input, settings(depth, form), words, text, page)
+}
+
+// Reads `input` as `qs_parse` does, and then writes an input that reads back as its tree into `out`, with the rest of
+// `out` as it was. Where `out` is shorter or the length limit is passed, and where the reading is refused, it is
+// unchanged.
+#[no_mangle]
+pub extern "C" fn qs_write(
+    depth: u32,
+    form: u32,
+    input: &[u8],
+    words: &mut [u32],
+    text: &mut [u8],
+    out: &mut [u8],
+) -> Written
+    ensures { λ r. ⌜ record {
+      answer = r;
+      words = now (words .exit);
+      text = now (text .exit);
+      out = now (out .exit);
+    }
+        ≡ writing (settings depth form) (now (input .entry)) (now (words .entry)) (now (text .entry))
+        (now (out .entry)) ⌝ }
+{
+    write::write(input, settings(depth, form), words, text, out)
 }

@@ -107,7 +107,7 @@ perform-no-empty env (add (under path key) x) n u y h =
 perform-no-empty env (add (last path) x) n u y h =
     at-path passes (λ l v w i. refuses tt) (λ k cs w i. refuses tt) path (pushLast env x) (push-obeys (adding env x y)) (n .row) (n .value) u h
 
-decoded-some : (x : ℕ) (s : List ℕ) → NotEmpty (decoded (x ∷ s))
+pub decoded-some : (x : ℕ) (s : List ℕ) → NotEmpty (decoded (x ∷ s))
 unfolding decoded
 decoded-some x [] = tt
 decoded-some x (y ∷ []) = by-test NotEmpty (not (eqb x percent)) (λ e. tt) (λ e. tt)

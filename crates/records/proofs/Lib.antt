@@ -8,13 +8,3 @@ pub mod Seeking
 pub mod Held
 pub mod Grown
 pub mod Valued
-pub mod Sequences
-pub mod Start
-pub mod Keeping
-pub mod Shortcuts
-pub mod Gaps
-pub mod Parents
-pub mod Knowing
-pub mod Finds
-pub mod Grows
-pub mod Added

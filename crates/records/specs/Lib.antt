@@ -3,6 +3,3 @@ pub mod Keys
 pub mod Siblings
 pub mod Nodes
 pub mod Holds
-pub mod Aids
-pub mod Finding
-pub mod Adding

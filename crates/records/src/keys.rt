@@ -170,7 +170,7 @@ fn compare_long(words: &[u32], text: &[u8], n: u32, name: &[u8]) -> Ordering
 
 // Where the key of record n stands to the one that is looked for, by its tag and its decoded bytes: most keys are told
 // apart by their tags, and those of fewer than eight bytes then by their lengths.
-pub(crate) fn compare_tagged(words: &[u32], text: &[u8], n: u32, tag: u64, name: &[u8]) -> Ordering
+pub fn compare_tagged(words: &[u32], text: &[u8], n: u32, tag: u64, name: &[u8]) -> Ordering
     requires { ⌜ (n < recordCount (now words)) × InText (now text) (keyWordsAt (now words) n) ⌝ }
     ensures { λ r. ⌜ ((k : Key) → Sought k tag (now (name .entry))
         → orderingOf r ≡ compareKeys (keyAt (now (words .entry)) (now (text .entry)) n) k) ⌝ }
@@ -217,7 +217,7 @@ fn has_int(words: &[u32], text: &[u8], n: u32, int: u32) -> bool
 }
 
 // Whether record n's key is the one that is looked for: an Int, or else a String of those bytes.
-pub(crate) fn has_key(words: &[u32], text: &[u8], n: u32, key: KeyKind, name: &[u8]) -> bool
+pub fn has_key(words: &[u32], text: &[u8], n: u32, key: KeyKind, name: &[u8]) -> bool
     requires { ⌜ (n < recordCount (now words)) × InText (now text) (keyWordsAt (now words) n) ⌝ }
     ensures { λ r. ⌜ (r ≡ true → compareKeys (keyAt (now (words .entry)) (now (text .entry)) n)
         (soughtKey key false (now (name .entry))) ≡ Ordering·eq) ⌝ }

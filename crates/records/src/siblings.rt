@@ -71,7 +71,7 @@ pub fn find(
 }
 
 // The last of the siblings from `first` on, or `before` where there is none.
-pub(crate) fn last_from(words: &[u32], before: u32, first: u32) -> u32
+pub fn last_from(words: &[u32], before: u32, first: u32) -> u32
     requires { ⌜ ForSome (λ used. Linked (now words) used × ChainEnds (now words) used first) ⌝ }
     ensures { λ r. ⌜ r ≡ lastOf before (chain (now (words .entry)) (recordCount (now (words .entry))) first) ⌝ }
 {

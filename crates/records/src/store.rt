@@ -25,7 +25,7 @@ pub struct Record {
 }
 
 // The value of record n, without its children.
-pub(crate) fn get_value(words: &[u32], n: u32) -> ValueWords
+pub fn get_value(words: &[u32], n: u32) -> ValueWords
     requires { ⌜ n < recordCount (now words) ⌝ }
     ensures { λ r. ⌜ r ≡ valueAt (now (words .entry)) n ⌝ }
 {

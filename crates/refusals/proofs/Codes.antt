@@ -7,7 +7,7 @@ use Rattle.refusals.specs.declared.Refusal.the-variants.{EndBeforeClosin
 use Rattle.refusals.specs.declared.Refusal.the-variants.{MapOnString, MapOnNull, ByteAfterKey, OpeningAfterBrackets}
 use Rattle.refusals.specs.declared.Refusal.the-variants.{ByteAfterBrackets, TooFewRecords, TooLittleText}
 use Rattle.refusals.specs.declared.Refusal.the-variants.{WrongRoot, NoSuchField, WrongKind, SeveralValues, MissingIndex, NotUtf8}
-use Rattle.refusals.specs.declared.Refusal.the-variants.{ShortSlice, ShortPage, WrongEnds, ShortAnswers}
+use Rattle.refusals.specs.declared.Refusal.the-variants.{ShortSlice, ShortPage, WrongEnds, ShortAnswers, ShortOutput}
 use Rattle.refusals.specs.Codes.{code}
 
 -- No refusal has the number 0.
@@ -37,3 +37,4 @@ code-some ShortSlice e = omega arith
 code-some ShortPage e = omega arith
 code-some WrongEnds e = omega arith
 code-some ShortAnswers e = omega arith
+code-some ShortOutput e = omega arith

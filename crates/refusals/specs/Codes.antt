@@ -9,7 +9,7 @@ use Rattle.refusals.specs.declared.Refusal.the-variants.{ByteAfterKey, O
 use Rattle.refusals.specs.declared.Refusal.the-variants.{TooFewRecords, TooLittleText}
 use Rattle.refusals.specs.declared.Refusal.the-variants.{WrongRoot, NoSuchField, WrongKind}
 use Rattle.refusals.specs.declared.Refusal.the-variants.{SeveralValues, MissingIndex, NotUtf8, ShortSlice}
-use Rattle.refusals.specs.declared.Refusal.the-variants.{ShortPage, WrongEnds, ShortAnswers}
+use Rattle.refusals.specs.declared.Refusal.the-variants.{ShortPage, WrongEnds, ShortAnswers, ShortOutput}
 
 abbrev pub code : Refusal → ℕ
 -- "Depth above 64", "Ticket above 65,535 bytes", "Fewer than 8 words lent"
@@ -48,3 +48,5 @@ code ShortPage = 23
 -- R-2: "ends that fall, or pass the names", "fewer than three answer words a name"
 code WrongEnds = 24
 code ShortAnswers = 25
+-- R-4: "those bytes are more than the output holds or than the length limit"
+code ShortOutput = 26

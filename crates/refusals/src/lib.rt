@@ -1,5 +1,5 @@
 // The refusals, each said once, and their numbers: what a call answers where it doesn't do what it was asked.
-// Definitions and code take this very enum; `code` (specs/Codes) is its number. 26 to 28 are kept for calls to come.
+// Definitions and code take this very enum; `code` (specs/Codes) is its number. 27 and 28 are kept for calls to come.
 // Nothing stands below it.
 ghost use mathlib.Core.Path.{_≡_};
 ghost use Rattle.refusals.specs.Codes.{code};
@@ -44,6 +44,8 @@ pub enum Refusal {
     // 24 and 25, of a list of names, before 1: ends that fall or pass the names, fewer than three words an answer.
     WrongEnds,
     ShortAnswers,
+    // 26, of a written input: more bytes than the output holds or than the length limit.
+    ShortOutput,
 }
 
 // The number of a refusal.
@@ -76,5 +78,6 @@ pub fn code(refusal: Refusal) -> u32
         Refusal::ShortPage => 23,
         Refusal::WrongEnds => 24,
         Refusal::ShortAnswers => 25,
+        Refusal::ShortOutput => 26,
     }
 }

@@ -8,17 +8,17 @@ use Rattle.key.specs.Keys.{Key}
 use Rattle.decode.specs.declared.Decoded.{Decoded}
 use Rattle.decode.specs.declared.Decoded.the-variants.{Yes, No}
 use Rattle.decode.specs.Shown.{lengthOf}
-use Rattle.records.specs.declared.appending.Appended.{Appended}
-use Rattle.records.specs.declared.appending.Appended.the-variants.{Used, TooFew}
+use Rattle.indexed.specs.declared.appending.Appended.{Appended}
+use Rattle.indexed.specs.declared.appending.Appended.the-variants.{Used, TooFew}
 use Rattle.records.specs.declared.store.ValueWords.{ValueWords}
 use Rattle.row.specs.Words.{recordCount}
 use Rattle.aids.specs.declared.Among.{Among}
-use Rattle.records.specs.Adding.{Change, Leaves, Appends, appended}
-use Rattle.records.specs.Aids.{aidsFor, Grown}
+use Rattle.indexed.specs.Adding.{Change, Leaves, Appends, appended}
+use Rattle.indexed.specs.Aids.{aidsFor, Grown}
 use Rattle.records.specs.Nodes.{Nodes, node, plug}
 use Rattle.records.specs.Holds.{Holds}
 use Rattle.records.proofs.Held.{other-text}
-use Rattle.records.proofs.Keeping.{holds-kept}
+use Rattle.indexed.proofs.Keeping.{holds-kept}
 use Rattle.reading.specs.Values.{Node}
 use Rattle.reading.specs.Leaves.{Leaf, leafOf}
 use Rattle.refusals.specs.declared.Refusal.the-variants.{TooFewRecords, TooLittleText}

@@ -10,15 +10,15 @@ use lib.Dec.{ltb}
 use borrow.Author.Tests.{lt-ltb, le-ltb, le-leb, lt-leb}
 use Rattle.laws.proofs.Cases.{by-test}
 use Rattle.key.specs.Keys.{str}
-use Rattle.records.specs.declared.appending.Appended.the-variants.{Used, TooFew}
+use Rattle.indexed.specs.declared.appending.Appended.the-variants.{Used, TooFew}
 use Rattle.records.specs.declared.siblings.Position.{Position}
 use Rattle.records.specs.declared.siblings.Position.the-variants.{Found, Between}
 use Rattle.records.specs.declared.store.ValueWords.{ValueWords}
 use Rattle.row.specs.Words.{recordCount}
 use Rattle.records.specs.Records.{withValue, inserted}
 use Rattle.records.specs.Siblings.{position, children, lastOf}
-use Rattle.records.specs.Adding.{Change, ifRoom, unkeyed as elementOf, emptyKeyed, sequenceOfTwo, pushed, paired}
-use Rattle.records.specs.Adding.{appendedHere, childAdded, atPosition, appended}
+use Rattle.indexed.specs.Adding.{Change, ifRoom, unkeyed as elementOf, emptyKeyed, sequenceOfTwo, pushed, paired}
+use Rattle.indexed.specs.Adding.{appendedHere, childAdded, atPosition, appended}
 use Rattle.records.specs.Nodes.{Nodes, nil, node, Context, plug}
 use Rattle.records.specs.Holds.{Holds}
 use Rattle.records.proofs.Forests.{indicator-same}
@@ -27,7 +27,7 @@ use Rattle.records.proofs.Held.{node-used, node-rising, kind-is, position-is}
 use Rattle.records.proofs.Seeking.{seekNode, insertNode, keyStands}
 use Rattle.records.proofs.Grown.{insert-holds}
 use Rattle.records.proofs.Valued.{value-holds}
-use Rattle.records.proofs.Sequences.{behindAll, push-holds, pair-holds}
+use Rattle.indexed.proofs.Sequences.{behindAll, push-holds, pair-holds}
 use Rattle.reading.specs.Values.{Row, Value, uninitialized, null, noValue, string, map, sequence, Forest, child, Node, at}
 use Rattle.reading.specs.Leaves.{Leaf}
 use Rattle.refusals.specs.declared.Refusal.{Refusal}

@@ -9,7 +9,7 @@ use Rattle.records.specs.declared.siblings.Position.the-variants.{Found, Betwee
 use Rattle.records.specs.Nodes.{Nodes, nil, node, Context, here, along, plug}
 use Rattle.records.proofs.Chains.{never-both}
 use Rattle.records.proofs.Seeking.{seekNode, insertNode, keyStands}
-use Rattle.records.proofs.Sequences.{behindAll}
+use Rattle.indexed.proofs.Sequences.{behindAll}
 use Rattle.reading.specs.Values.{Row, rowKey, bare, Value, Forest, none, child, Node, at}
 use Rattle.key.specs.KeyOrder.{compareKeys}
 use Rattle.key.proofs.KeyOrders.{opposite}

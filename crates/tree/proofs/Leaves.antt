@@ -8,11 +8,11 @@ use Rattle.row.specs.Row.{mapKind, sequenceKind}
 use Rattle.records.specs.Nodes.{Nodes, nil, node, Context, here, down, along, plug}
 use Rattle.records.specs.Holds.{Holds}
 use Rattle.records.specs.Siblings.{children}
-use Rattle.records.specs.Aids.{Leafy, Ready}
+use Rattle.indexed.specs.Aids.{Leafy, Ready}
 use Rattle.records.proofs.Forests.{numbers}
 use Rattle.records.proofs.Contexts.{At}
 use Rattle.records.proofs.Held.{kind-is, children-are, at}
-use Rattle.records.proofs.Parents.{there}
+use Rattle.indexed.proofs.Parents.{there}
 use Rattle.reading.specs.Values.{Value, uninitialized, null, noValue, string, map, sequence, Forest, none, child, Node}
 use Rattle.reading.specs.Charging.{Environment}
 use Rattle.reading.specs.Records.{kind}

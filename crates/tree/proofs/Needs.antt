@@ -13,12 +13,12 @@ use Rattle.records.specs.declared.store.ValueWords.{ValueWords}
 use Rattle.row.specs.Row.{kindWord, uninitializedKind, mapKind, sequenceKind, stringKind}
 use Rattle.row.specs.Words.{word}
 use Rattle.records.specs.Records.{withValue}
-use Rattle.records.specs.Adding.{childless}
+use Rattle.indexed.specs.Adding.{childless}
 use Rattle.records.specs.Nodes.{Nodes, nil, node, plug}
 use Rattle.records.specs.Holds.{Holds, HoldsSome}
-use Rattle.records.specs.Aids.{Aided}
+use Rattle.indexed.specs.Aids.{Aided}
 use Rattle.records.proofs.Valued.{value-holds, length-withValue}
-use Rattle.records.proofs.Knowing.{aided-valued}
+use Rattle.indexed.proofs.Knowing.{aided-valued}
 use Rattle.reading.specs.Values.{Row, Value, uninitialized, null, noValue, string, map, sequence, Forest, none, Node, at}
 use Rattle.refusals.specs.declared.Refusal.{Refusal}
 use Rattle.refusals.specs.declared.Refusal.the-variants.{SequenceOnMap, SequenceOnSingle, MapOnSequence, MapOnString}

@@ -11,11 +11,11 @@ use Rattle.records.specs.Keys.{storedKey, keyAt}
 use Rattle.records.specs.Nodes.{Nodes, nil, node, Context, here, down, along, plug}
 use Rattle.records.specs.Holds.{Represents, Holds}
 use Rattle.records.specs.Siblings.{children}
-use Rattle.records.specs.Aids.{InOrder, Sorted}
+use Rattle.indexed.specs.Aids.{InOrder, Sorted}
 use Rattle.records.proofs.Forests.{numbers}
 use Rattle.records.proofs.Contexts.{At}
 use Rattle.records.proofs.Held.{node-represented, kind-is, children-are, at}
-use Rattle.records.proofs.Parents.{there}
+use Rattle.indexed.proofs.Parents.{there}
 use Rattle.reading.specs.Values.{Row, rowKey, Value, uninitialized, null, noValue, string, map, sequence, Forest, none, child, Node}
 use Rattle.reading.specs.Records.{kind}
 use Rattle.reading.specs.Laid.{LaidLabel, Laid, LaidAll}

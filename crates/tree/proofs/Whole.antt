@@ -13,12 +13,12 @@ use borrow.Author.Tests.{eq-eqb, ne-eqb}
 use Rattle.row.specs.Row.{recordWidth, uninitializedKind, noValueKind}
 use Rattle.row.specs.Words.{word}
 use Rattle.records.specs.Records.{withRecord}
-use Rattle.records.specs.Adding.{unkeyed, childless}
+use Rattle.indexed.specs.Adding.{unkeyed, childless}
 use Rattle.records.specs.Nodes.{first as firstNode, indicator, count}
 use Rattle.records.specs.Holds.{Represents}
 use Rattle.records.specs.Holds as Stored
 use Rattle.records.proofs.Forests.{indicator-same, indicator-other, row, row-words}
-use Rattle.records.proofs.Start.{start-holds}
+use Rattle.indexed.proofs.Start.{start-holds}
 use Rattle.reading.specs.Values.{Label, unkeyed as noKey, intKey, stringKey, Row, Value, uninitialized, null, noValue, string}
 use Rattle.reading.specs.Values.{map, sequence, Forest, none, child, Node}
 use Rattle.reading.specs.Records.{first, firstChild, recordWords, recordBelow, recordAmong, recordsFrom, rooted as forestOf, layout}

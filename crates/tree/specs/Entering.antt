@@ -8,14 +8,14 @@ use Rattle.decode.specs.declared.Decoded.{Decoded}
 use Rattle.decode.specs.declared.Decoded.the-variants.{Yes, No}
 use Rattle.key.specs.declared.KeyKind.{KeyKind}
 use Rattle.key.specs.declared.KeyKind.the-variants.{None, Int, String}
-use Rattle.records.specs.declared.finding.Walk.{Walk}
+use Rattle.indexed.specs.declared.finding.Walk.{Walk}
 use Rattle.records.specs.declared.store.KeyWords.{KeyWords}
 use Rattle.records.specs.declared.store.Record.{Record}
 use Rattle.row.specs.Row.{kindWord, uninitializedKind, mapKind, intKeyKind, stringKeyKind}
 use Rattle.row.specs.Words.{recordCount, word}
 use Rattle.records.specs.Records.{inserted}
-use Rattle.records.specs.Adding.{childless}
-use Rattle.records.specs.Aids.{Ready, aidsFor, Grown}
+use Rattle.indexed.specs.Adding.{childless}
+use Rattle.indexed.specs.Aids.{Ready, aidsFor, Grown}
 use Rattle.refusals.specs.declared.Refusal.the-variants.{TooFewRecords, TooLittleText}
 use Rattle.tree.specs.declared.Here.{Here}
 use Rattle.tree.specs.declared.Performed.{Performed}

@@ -6,7 +6,7 @@ use lib.Dec.{eqb}
 use Rattle.row.specs.Row.{kindWord, uninitializedKind, mapKind, sequenceKind, stringKind}
 use Rattle.row.specs.Words.{word}
 use Rattle.records.specs.Records.{withValue}
-use Rattle.records.specs.Adding.{childless}
+use Rattle.indexed.specs.Adding.{childless}
 use Rattle.refusals.specs.declared.Refusal.the-variants.{SequenceOnMap, SequenceOnSingle, MapOnSequence, MapOnString}
 use Rattle.refusals.specs.declared.Refusal.the-variants.{MapOnNull}
 use Rattle.tree.specs.declared.Here.{Here}

@@ -6,10 +6,10 @@ use Rattle.refusals.specs.declared.Refusal.the-variants.{TooLittleText}
 use Rattle.tree.specs.declared.Here.{Here}
 use Rattle.tree.specs.declared.Performed.{Performed}
 use Rattle.tree.specs.declared.Performed.the-variants.{Made, Refused}
-use Rattle.records.specs.Aids.{aidsFor}
+use Rattle.indexed.specs.Aids.{aidsFor}
 use Rattle.records.specs.declared.store.ValueWords.{ValueWords}
 use Rattle.row.specs.Row.{stringKind, nullKind, noValueKind}
-use Rattle.records.specs.Adding.{childless}
+use Rattle.indexed.specs.Adding.{childless}
 use Rattle.reading.specs.declared.LeafKind.{LeafKind}
 use Rattle.reading.specs.declared.LeafKind.the-variants.{Null, NoValue, String}
 

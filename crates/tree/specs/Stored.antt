@@ -6,7 +6,7 @@ use lib.ListN.{length, take, replicate}
 use Rattle.key.specs.Keys.{Key}
 use Rattle.records.specs.Nodes.{Nodes, node, Context, plug}
 use Rattle.records.specs.Holds.{Holds}
-use Rattle.records.specs.Aids.{Aided}
+use Rattle.indexed.specs.Aids.{Aided}
 use Rattle.reading.specs.Values.{Row, Value, Node, at}
 use Rattle.reading.specs.Charging.{Environment, Used, NodeRule, over}
 use Rattle.reading.specs.Adding.{atPath}

@@ -12,10 +12,10 @@ use crate::Performed;
 use crate::laying;
 use aids::Among;
 use decode::Decoded;
+use indexed::appending;
+use indexed::appending::Appended;
+use indexed::finding;
 use reading::LeafKind;
-use records::appending;
-use records::appending::Appended;
-use records::finding;
 use records::store::ValueWords;
 use refusals::Refusal;
 

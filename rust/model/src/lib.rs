@@ -1,12 +1,14 @@
-//! A model of document 01's reading, in `fields` of its field reads and of document 02's of many names, and in `sheet` of document
-//! 02's proof sheet. It is recursive, as the source's parser is, with values in a growing list instead of lent records. It shares
-//! nothing with the proved reader, and gives everything that a call answers and leaves.
+//! A model of document 01's reading, in `fields` of its field reads and of document 02's of many names, in `sheet` of document 02's
+//! proof sheet, and in `ser` of its ticket writer. It is recursive, as the source's parser is, with values in a growing list instead
+//! of lent records. It shares nothing with the proved reader, and gives everything that a call answers and leaves.
 
 mod fields;
 pub mod row;
+mod ser;
 mod sheet;
 pub use fields::{fields, list, text, FieldOutcome, FieldsOutcome, Names, ANSWER_WORDS};
 use row::WIDTH;
+pub use ser::{write, written, WriteOutcome};
 pub use sheet::{sheet, SheetOutcome, SHEET_LINE};
 
 /// How a reading is set: `depth` is refused above [`MAX_DEPTH`].

@@ -7,8 +7,12 @@
 //! `layout --sheet TICKET`: the proof sheet of a ticket, as the library prints it: a line a value. It has no byte that a terminal would
 //! obey but its newlines.
 //!
-//! `layout --segment SEGMENT`: the text of a raw segment alone. It goes to standard output byte for byte and with nothing added; only
-//! a terminal gets it with a newline at the end and with control characters spelled out.
+//! `layout --write TICKET`: the ticket as the library writes it, a pair a value in the order of keys. Read again it has the same tree.
+//!
+//! `layout --segment SEGMENT`: the text of a raw segment alone.
+//!
+//! A written ticket and a segment's text go to standard output byte for byte and with nothing added; only a terminal gets them with a
+//! newline at the end and with control characters spelled out.
 //!
 //! Exit status: 0, shown; 1, something was refused, isn't UTF-8 or can't be written; 2, bad usage.
 
@@ -26,7 +30,11 @@ const BAD_USAGE: u8 = 2;
 const USAGE: &str = "\
 usage: layout TICKET [NAME...]
        layout --sheet TICKET
+       layout --write TICKET
        layout --segment SEGMENT";
+
+/// What stands before a single argument.
+const OPTIONS: [&[u8]; 3] = [b"--segment", b"--sheet", b"--write"];
 
 fn main() -> ExitCode {
     let arguments = std::env::args_os().skip(1).map(OsString::into_vec);
@@ -34,7 +42,8 @@ fn main() -> ExitCode {
     let done = match arguments.as_slice() {
         [option, segment] if option == b"--segment" => show_segment(segment),
         [option, input] if option == b"--sheet" => show_sheet(input),
-        [option, ..] if option == b"--segment" || option == b"--sheet" => return bad_usage(),
+        [option, input] if option == b"--write" => show_written(input),
+        [option, ..] if OPTIONS.contains(&&option[..]) => return bad_usage(),
         [input] => show_root(input),
         [input, names @ ..] => show_fields(input, names),
         [] => return bad_usage(),
@@ -225,14 +234,32 @@ fn show_sheet(input: &[u8]) -> Shown {
     Ok(())
 }
 
+/// A ticket as it is written.
+fn show_written(input: &[u8]) -> Shown {
+    let (mut records, mut text) = qs::buffers(input.len());
+    let mut ticket = vec![0; qs::write_room(input.len())];
+    let config = Config::default();
+    let written = qs::write(config, input, &mut records, &mut text, &mut ticket);
+    let reading = written.reading;
+    if reading.number != refusal::ACCEPTED {
+        return Err(refused(input, reading.number, reading.place).into());
+    }
+    ticket.truncate(written.length as usize);
+    show_bytes(&ticket)
+}
+
 /// The text of a segment.
 fn show_segment(raw: &[u8]) -> Shown {
-    let text = text_of(raw)?;
+    show_bytes(text_of(raw)?.as_bytes())
+}
+
+/// Bytes as they are, or spelled out for a terminal.
+fn show_bytes(bytes: &[u8]) -> Shown {
     let mut out = io::stdout().lock();
-    if out.is_terminal() {
-        writeln!(out, "{}", spelled_out(&text))?;
-    } else {
-        out.write_all(text.as_bytes())?;
+    match std::str::from_utf8(bytes) {
+        _ if !out.is_terminal() => out.write_all(bytes)?,
+        Ok(text) => writeln!(out, "{}", spelled_out(text))?,
+        Err(_) => writeln!(out, "{}", bytes.escape_ascii())?,
     }
     out.flush()?;
     Ok(())

@@ -32,6 +32,7 @@ static uint8_t text[16];
 static uint32_t list[6];
 static uint32_t answers[3 * QS_ANSWER_WORDS + 2];
 static uint8_t page[2 * QS_SHEET_LINE + 5];
+static uint8_t out[24];
 
 /* Records and text as two slices. */
 #define LENT words, COUNT(words), text, sizeof text
@@ -42,6 +43,7 @@ static void fill(void) {
     memset(list, 7, sizeof list);
     memset(answers, 7, sizeof answers);
     memset(page, 7, sizeof page);
+    memset(out, 7, sizeof out);
 }
 
 static int all(const void *bytes, size_t length, uint8_t byte) {
@@ -78,6 +80,9 @@ static void numbers(void) {
     CHECK(QS_ANSWER_WORDS == RUST_ANSWER_WORDS);
     CHECK(sizeof(struct qs_reading) == RUST_READING_SIZE);
     CHECK(sizeof(struct qs_field_read) == RUST_FIELD_READ_SIZE);
+    CHECK(sizeof(struct qs_written) == RUST_WRITTEN_SIZE);
+    CHECK(QS_WRITE_ROOM(21844) == RUST_WRITE_ROOM && QS_WRITE_ROOM(0) == 2);
+    CHECK(QS_WRITE_ROOM(21845) == QS_MAX_INPUT && QS_WRITE_ROOM((size_t)-1) == QS_MAX_INPUT);
 }
 
 static void parse(void) {
@@ -207,6 +212,42 @@ static void sheet(void) {
     CHECK(reading.number == 1 && reading.place == 0 && reading.records == 0 && reading.bytes == 0);
 }
 
+/* Where form isn't 0, whatever it is, `a%5B%5D=` is a sequence of one. */
+static void write_ticket(void) {
+    static const uint32_t flags[3] = {1, 256, UINT32_MAX};
+    struct qs_written written;
+    size_t i;
+    fill();
+    written = qs_write(5, 0, SLICE("b=%2B&a=1&a="), LENT, out, sizeof out);
+    CHECK(written.number == 0 && written.place == 0 && written.records == 5 && written.bytes == 4 && written.length == 16);
+    CHECK(memcmp(out, "a[]=1&a[]=&b=%2b", 16) == 0 && all(out + 16, sizeof out - 16, 7));
+    CHECK(words[0] == 1 && memcmp(text, "b+a1", 4) == 0 && all(text + 4, sizeof text - 4, 0));
+    fill();
+    written = qs_write(5, 0, SLICE("b=%2B&a=1&a="), LENT, out, 15);
+    CHECK(written.number == 26 && written.place == 0 && written.records == 5 && written.bytes == 4 && written.length == 0);
+    CHECK(words[0] == 1 && memcmp(text, "b+a1", 4) == 0 && all(text + 4, sizeof text - 4, 0) && all(out, sizeof out, 7));
+    for (i = 0; i < COUNT(flags); i++) {
+        fill();
+        written = qs_write(5, flags[i], SLICE("a%5B%5D="), LENT, out, sizeof out);
+        CHECK(written.number == 0 && written.records == 3 && written.length == 4 && memcmp(out, "a[]=\x07", 5) == 0);
+    }
+    written = qs_write(5, 0, SLICE("a%5B%5D="), LENT, out, sizeof out);
+    CHECK(written.number == 0 && written.records == 2 && written.length == 8 && memcmp(out, "a%5b%5d=\x07", 9) == 0);
+    written = qs_write(5, 0, NULL, 0, words, COUNT(words), NULL, 0, NULL, 0);
+    CHECK(written.number == 0 && written.place == 0 && written.records == 1 && written.bytes == 0 && written.length == 0);
+    CHECK(words[0] == 5);
+    written = qs_write(5, 0, SLICE("&"), words, COUNT(words), NULL, 0, NULL, 0);
+    CHECK(written.number == 26 && written.place == 0 && written.records == 1 && written.bytes == 0 && written.length == 0);
+    fill();
+    written = qs_write(5, 1, SLICE("a%5B"), LENT, out, sizeof out);
+    CHECK(written.number == 4 && written.place == 5 && written.records == 0 && written.bytes == 0 && written.length == 0);
+    CHECK(all(words, sizeof words, 0) && all(text, sizeof text, 0) && all(out, sizeof out, 7));
+    fill();
+    written = qs_write(QS_MAX_DEPTH + 1, 0, SLICE("a"), LENT, out, sizeof out);
+    CHECK(written.number == 1 && written.place == 0 && written.records == 0 && written.length == 0);
+    CHECK(all(words, sizeof words, 7) && all(text, sizeof text, 7) && all(out, sizeof out, 7));
+}
+
 int main(void) {
     numbers();
     decode();
@@ -217,6 +258,7 @@ int main(void) {
     read_fields();
     refused_names();
     sheet();
+    write_ticket();
     printf("%d checks, %d failed\n", checks, failures);
     return failures > 0;
 }

@@ -132,6 +132,36 @@ pub fn fields_query(random: &mut Random, pairs: usize) -> Vec<u8> {
     input
 }
 
+/// So many pairs whose brackets end about where those of a depth do. Most lead the same way until then, and some are given twice.
+pub fn deep_query(random: &mut Random, depth: u32, pairs: usize) -> Vec<u8> {
+    const ENDS: [&[u8]; 16] = [
+        b"", b"", b"", b"[]", b"[]", b"[1]", b"[%31]", b"[+]", b"[%5B]", b"[b", b"[b]c", b"[=",
+        b"[&", b"[[", b"[1", b"[%5D",
+    ];
+    const VALUES: [&[u8]; 5] = [b"", b"=", b"=1", b"=%2B[", b"=x+y"];
+    let mut rows: Vec<Vec<u8>> = Vec::new();
+    for _ in 0..pairs {
+        if !rows.is_empty() && random.below(4) == 0 {
+            rows.push(rows[random.below(rows.len())].clone());
+            continue;
+        }
+        let mut row = b"a".to_vec();
+        let brackets =
+            (depth as usize + random.below(3)).saturating_sub(random.below(3) * random.below(2));
+        for _ in 0..brackets {
+            row.extend_from_slice(match random.below(4 + 4 * depth as usize) {
+                0 => b"[c]",
+                1 => b"[0]",
+                _ => b"[b]",
+            });
+        }
+        row.extend_from_slice(ENDS[random.below(ENDS.len())]);
+        row.extend_from_slice(VALUES[random.below(VALUES.len())]);
+        rows.push(row);
+    }
+    rows.join(&b'&')
+}
+
 /// A query of close to so many bytes that is mostly accepted: every pair has a key of its own kind.
 pub fn long_query(random: &mut Random, length: usize) -> Vec<u8> {
     let mut input = Vec::new();

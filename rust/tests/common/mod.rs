@@ -87,11 +87,16 @@ pub fn every_string(alphabet: &[u8], longest: usize, mut check: impl FnMut(&[u8]
     }
 }
 
-/// How often a random comparison is made, where one in the gate makes `few`: `COMPARE=whole` in the environment asks for more.
+/// Whether more is asked for than the gate compares, by `COMPARE=whole` in the environment.
+pub fn whole() -> bool {
+    std::env::var("COMPARE").as_deref() == Ok("whole")
+}
+
+/// How often a random comparison is made, where one in the gate makes `few`.
 pub fn times(few: usize) -> usize {
-    match std::env::var("COMPARE").as_deref() {
-        Ok("whole") => 20 * few,
-        _ => few,
+    match whole() {
+        true => 20 * few,
+        false => few,
     }
 }
 
@@ -161,6 +166,15 @@ fn key_at(words: &[u32], text: &[u8], number: u32) -> serde_qs_reference::Key {
 pub fn random_config(random: &mut Random) -> qs::Config {
     qs::Config {
         depth: [0, 1, 2, 3, 5, qs::Config::MAX_DEPTH][random.below(6)],
+        form: random.below(2) == 1,
+    }
+}
+
+/// Settings of any depth, a shallow one more often than a deep one.
+pub fn any_config(random: &mut Random) -> qs::Config {
+    let deepest = qs::Config::MAX_DEPTH >> random.below(7);
+    qs::Config {
+        depth: random.below(deepest as usize + 1) as u32,
         form: random.below(2) == 1,
     }
 }

@@ -1,6 +1,6 @@
 -- By whether a record is left, and whether the key is laid: the ways of Entered.
 use native.Mathlib.Omega.{arith}
-use Rattle.records.proofs.Added.{room}
+use Rattle.indexed.proofs.Added.{room}
 use Rattle.tree.proofs.EnterWays.{laid-countable, new-inside, new-entered, new-little, new-few}
 use borrow.Author.Needs.{needs}
 use Rattle.tree.proofs.entering.enter_new.Statement.{statement}

@@ -1,0 +1,3 @@
+pub mod Aids
+pub mod Finding
+pub mod Adding

@@ -1,0 +1,3 @@
+pub mod Along
+pub mod SameTree
+pub mod Readings

@@ -1,0 +1,4 @@
+pub mod Rules
+pub mod Meaning
+pub mod SameTree
+pub mod Readings

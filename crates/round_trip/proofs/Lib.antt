@@ -1,0 +1,17 @@
+pub mod Yields
+pub mod KeptFit
+pub mod OpenedKeys
+pub mod Pending
+pub mod Made
+pub mod Writables
+pub mod Effects
+pub mod Remade
+pub mod Bytes
+pub mod KeysRead
+pub mod PairsRead
+pub mod WrittenBack
+pub mod RoundTrip
+pub mod Lengths
+pub mod Weights
+pub mod PairLengths
+pub mod Bound

@@ -1,0 +1,9 @@
+pub mod Escaping
+pub mod Writing
+pub mod Pages
+pub mod Runs
+pub mod Filled
+pub mod Measuring
+pub mod Walking
+pub mod Examples
+pub mod Others

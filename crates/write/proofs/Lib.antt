@@ -1,0 +1,3 @@
+pub mod Accepted
+pub mod Results
+pub mod Examples

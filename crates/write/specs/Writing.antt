@@ -1,0 +1,54 @@
+-- A reading and the input that is written of its tree: what the call answers, and what it leaves in the lent buffers
+-- and the lent output. Document 02, R-4. The public contract equates its result with `writing`.
+use Prim.Native.Nat.{ℕ}
+use mathlib.Core.Bool.{cond, _||_}
+use mathlib.Core.List.{List, _++_}
+use lib.Dec.{ltb}
+use lib.ListN.{length, drop}
+use Rattle.refusals.specs.declared.Refusal.the-variants.{ShortOutput}
+use Rattle.config.specs.declared.Config.{Config}
+use Rattle.config.specs.Limits.{maxLen}
+use Rattle.reading.specs.declared.Reading.{Reading}
+use Rattle.reading.specs.Values.{Node}
+use Rattle.reading.specs.Trees.{plain}
+use Rattle.reading.specs.Reading.{Outcome, refusedAfter, read, after}
+use Rattle.ser.specs.Writing.{written}
+use Rattle.write.specs.declared.Written.{Written}
+
+-- What the call answers, and what words, text and output hold then.
+pub record Result : Type 0 where
+  pub answer : Written
+  pub words : List ℕ
+  pub text : List ℕ
+  pub out : List ℕ
+
+-- A reading's four numbers, and the length of what is written.
+abbrev pub answered : Reading → ℕ → Written
+answered a length =
+    record { number = a .number; place = a .place; records = a .records; bytes = a .bytes; length = length }
+
+-- "under any refusal, the output is unchanged", and nothing is written
+abbrev pub unwritten : Outcome → List ℕ → Result
+unwritten o out = record { answer = answered (o .answer) 0; words = o .words; text = o .text; out = out }
+
+-- 26: records and text are as the reading left them.
+abbrev pub shortOutput : Outcome → Outcome
+shortOutput o = record { answer = refusedAfter (o .answer) ShortOutput; words = o .words; text = o .text }
+
+-- "those bytes are more than the output holds or than the length limit"; else they stand in it. "The result's length is
+-- the written ticket's. Past the ticket … the output is unchanged."
+abbrev pub resultOf : Config → Node → Outcome → List ℕ → Result
+resultOf config tree o out =
+    let bytes = written config (plain (tree .value)) in
+    cond (ltb (length out) (length bytes) || ltb maxLen (length bytes)) (unwritten (shortOutput o) out)
+    (record {
+      answer = answered (o .answer) (length bytes);
+      words = o .words;
+      text = o .text;
+      out = bytes ++ drop (length bytes) out;
+    })
+
+-- "after a reading accepts"
+abbrev pub writing : Config → List ℕ → List ℕ → List ℕ → List ℕ → Result
+writing config input words text out =
+    after (read config input words text) (λ tree o. resultOf config tree o out) (λ o. unwritten o out)
