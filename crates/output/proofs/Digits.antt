@@ -35,11 +35,11 @@ decimal-enough (suc j) (suc k) n p q =
     below n 10 (λ h. rw (lt-ltb n 10 h))
     (λ h. ap (λ front. cond (ltb n 10) [] front ++ ((48 + n % 10) ∷ [])) (decimal-enough j k (n / 10) (omega arith) (omega arith)))
 
-decimal-digit : (n : ℕ) → n < 10 → decimal n ≡ (48 + n % 10) ∷ []
+pub decimal-digit : (n : ℕ) → n < 10 → decimal n ≡ (48 + n % 10) ∷ []
 unfolding decimal decimalIn
 decimal-digit n h = decimal-enough n (suc n) n (omega arith) (omega arith) ∙ rw (lt-ltb n 10 h)
 
-decimal-more : (n : ℕ) → 10 ≤ n → decimal n ≡ decimal (n / 10) ++ ((48 + n % 10) ∷ [])
+pub decimal-more : (n : ℕ) → 10 ≤ n → decimal n ≡ decimal (n / 10) ++ ((48 + n % 10) ∷ [])
 unfolding decimal decimalIn
 decimal-more n h =
     decimal-enough n (suc n) n (omega arith) (omega arith)

@@ -1,11 +1,2 @@
-pub mod Pages
-pub mod Runs
-pub mod Digits
-pub mod Escapes
-pub mod Standing
-pub mod Copies
-pub mod Pairings
-pub mod Turns
-pub mod Roots
 pub mod Examples
 pub mod Reading

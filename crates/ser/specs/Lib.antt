@@ -1,9 +1,4 @@
 pub mod Escaping
 pub mod Writing
-pub mod Pages
-pub mod Runs
-pub mod Filled
-pub mod Measuring
-pub mod Walking
 pub mod Examples
 pub mod Others

@@ -1,48 +1,6 @@
-// Document 02, R-4: an input that reads back as the tree that records hold. The definition is specs/Writing, whose
-// examples are specs/Examples; clients cite `written` and, of the output, specs/Pages. `write_tree` writes it, and
-// `measure` tells only how long it is: one walk serves both.
-// Below it stand a record's row (row), the key rule (key), the settings (config), the definitions of a reading
-// (reading), numbers in an output (output), bytes by name (ascii) and laws.
-mod bytes; // a byte, escapes and decimal, written where there is room
-mod keys; // a key's own part
-mod walk; // the walk over the values
-
-ghost use mathlib.Core.Path.{_≡_};
-ghost use Rattle.reading.specs.Buffers.{valueIn, treeIn};
-ghost use Rattle.output.specs.Output.{page};
-ghost use Rattle.ser.specs.Writing.{written};
-ghost use Rattle.ser.specs.Pages.{Holds};
-ghost use Rattle.ser.specs.Filled.{FilledRoot};
-ghost use Rattle.ser.specs.Measuring.{lengthWithin};
-use config::Config;
-use walk::Item;
-use walk::Place;
-
-// Writes the input for the tree that words and text hold, as much of it as the output has room for and the length limit
-// allows. Answers its length, or the length limit and one more where it is longer. Past it the output is unchanged.
-pub fn write_tree(config: Config, words: &[u32], text: &[u8], out: &mut [u8]) -> usize
-    ensures { λ r. ⌜ (FilledRoot (valueIn (now (words .entry)) (now (text .entry))) → Holds (now (out .entry))
-        (written config (treeIn (now (words .entry)) (now (text .entry)))) (page (now (out .exit)) r)) ⌝ }
-{
-    if walk::is_undecided(words) {
-        return bytes::put(b'&', out, 0);
-    }
-    let place = Place {
-        start: 0,
-        end: 0,
-        level: 0,
-        repeats: config.depth == 0,
-    };
-    let n = 0;
-    let left = words.len();
-    walk::write_value(config, words, text, Item { n, left, place }, out)
-}
-
-// How long that is, or the length limit and one more where it is longer.
-pub fn measure(config: Config, words: &[u32], text: &[u8]) -> usize
-    ensures { λ r. ⌜ (FilledRoot (valueIn (now (words .entry)) (now (text .entry))) → r ≡ lengthWithin
-        (written config (treeIn (now (words .entry)) (now (text .entry))))) ⌝ }
-{
-    let mut scratch = [0u8; 1];
-    write_tree(config, words, text, &mut scratch)
-}
+// The writer's definition (document 02, R-4): the input that is written of a tree. It has no code; who writes it stands
+// above (writer).
+// Clients cite `written` (specs/Writing), over the bytes of keys and values (specs/Escaping). specs/Examples has a case
+// for each sentence of R-4, specs/Others what doesn't come back; proofs/Reading has how what is written is read.
+// Below it stand the definitions of a reading (reading), the key rule (key), the settings (config), decimal and hex
+// (output), bytes by name (ascii) and laws.

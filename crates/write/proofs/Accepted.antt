@@ -12,7 +12,7 @@ use Rattle.reading.specs.Reading.{reading}
 use Rattle.reading.specs.Buffers.{valueIn}
 use Rattle.meaning.specs.Readings.{treeOf}
 use Rattle.meaning.proofs.Readings.{readings}
-use Rattle.ser.specs.Filled.{NotNone, Filled, FilledAll, FilledRoot}
+use Rattle.writer.specs.Filled.{NotNone, Filled, FilledAll, FilledRoot}
 use Rattle.round_trip.specs.Writable.{Spot, rootSpot, spotUnder, ElementFits, ElementsFit, Enough, HasName, Fits, EntriesFit, Writable}
 use Rattle.round_trip.proofs.Writables.{all-writable}
 

@@ -22,10 +22,10 @@ use Rattle.parse.specs.Outcomes.{answerOf, outcomeOf as parsedOutcome}
 use Rattle.parse.proofs.Went.{after-it, outcome-is, by-way, by-refusal}
 use Rattle.output.specs.Output.{page}
 use Rattle.ser.specs.Writing.{written}
-use Rattle.ser.specs.Pages.{Holds}
-use Rattle.ser.specs.Measuring.{lengthWithin}
-use Rattle.ser.specs.Filled.{FilledRoot}
-use Rattle.ser.proofs.Pages.{held-all}
+use Rattle.writer.specs.Pages.{Holds}
+use Rattle.writer.specs.Measuring.{lengthWithin}
+use Rattle.writer.specs.Filled.{FilledRoot}
+use Rattle.writer.proofs.Pages.{held-all}
 use Rattle.write.specs.declared.Written.{Written}
 use Rattle.write.specs.Writing.{Result, answered, unwritten, shortOutput, resultOf, writing}
 use Rattle.write.proofs.Accepted.{accepted-filled}

@@ -1,6 +1,7 @@
 // The writer's call: reads an input and writes one that reads back as its tree. Document 02, R-4. What is promised
 // stands in specs/Writing.
-// Below it stand the reader (parse), the writer of a tree (ser) and the definitions of a reading (reading).
+// Below it stand the reader (parse), the writer of a tree (writer), which trees readings make (round_trip) and the
+// definitions of a reading (reading).
 ghost use mathlib.Core.Bool.{_&&_};
 ghost use mathlib.Core.Path.{_≡_};
 ghost use lib.Dec.{leb};
@@ -63,10 +64,10 @@ pub fn write(
     if reading.number != 0 {
         return answered(reading, 0);
     }
-    let len = ser::measure(config, words, text);
+    let len = writer::measure(config, words, text);
     if !fits(len, out.len()) {
         return answered(reading.refused_by(Refusal::ShortOutput), 0);
     }
-    ser::write_tree(config, words, text, out);
+    writer::write_tree(config, words, text, out);
     answered(reading, len as u32)
 }

@@ -1,0 +1,9 @@
+pub mod Pages
+pub mod Digits
+pub mod Escapes
+pub mod Runs
+pub mod Copies
+pub mod Standing
+pub mod Pairings
+pub mod Turns
+pub mod Roots

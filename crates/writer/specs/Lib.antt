@@ -1,0 +1,5 @@
+pub mod Pages
+pub mod Runs
+pub mod Filled
+pub mod Measuring
+pub mod Walking
