@@ -93,28 +93,29 @@ int32_t qs_utf8(const uint8_t *bytes, size_t bytes_len);
 
 /*
  * Reads a query string into records of QS_RECORD_WORDS words, and text; records_len counts words, not records. Brackets nest
- * to depth; where form isn't 0, %5B and %5D are taken as brackets. What an accepted reading doesn't use is zero. Refusals 1 to
- * 3 leave both buffers as they were, and the later ones zero them.
+ * to depth; where form isn't 0, %5B and %5D are taken as brackets. Where zeros isn't 0, zeros in front of a number count: 07 is a
+ * string key then, another than 7; 0 alone stays an integer. What an accepted reading doesn't use is zero. Refusals 1 to 3 leave
+ * both buffers as they were, and the later ones zero them.
  */
-struct qs_reading qs_parse(uint32_t depth, uint32_t form, const uint8_t *input, size_t input_len, uint32_t *records,
-                           size_t records_len, uint8_t *text, size_t text_len);
+struct qs_reading qs_parse(uint32_t depth, uint32_t form, uint32_t zeros, const uint8_t *input, size_t input_len,
+                           uint32_t *records, size_t records_len, uint8_t *text, size_t text_len);
 
 /*
  * Reads a query string as qs_parse does, and then the text of the root's field of that name; an Int key has no name. Of
  * several values it takes the last where duplicates is 0, and else refuses. The text is UTF-8.
  */
-struct qs_field_read qs_text(uint32_t depth, uint32_t form, uint32_t duplicates, const uint8_t *input, size_t input_len,
-                             const uint8_t *name, size_t name_len, uint32_t *records, size_t records_len, uint8_t *text,
-                             size_t text_len);
+struct qs_field_read qs_text(uint32_t depth, uint32_t form, uint32_t zeros, uint32_t duplicates, const uint8_t *input,
+                             size_t input_len, const uint8_t *name, size_t name_len, uint32_t *records, size_t records_len,
+                             uint8_t *text, size_t text_len);
 
 /*
  * As qs_text, for a field that is a list: each element is read as a text, and its offset and length in text are written into
  * list, two words an element in order. What list has beyond them is zero. Refusals 1 to 3 leave list as it was, and the later
  * ones zero it.
  */
-struct qs_field_read qs_list(uint32_t depth, uint32_t form, uint32_t duplicates, const uint8_t *input, size_t input_len,
-                             const uint8_t *name, size_t name_len, uint32_t *records, size_t records_len, uint8_t *text,
-                             size_t text_len, uint32_t *list, size_t list_len);
+struct qs_field_read qs_list(uint32_t depth, uint32_t form, uint32_t zeros, uint32_t duplicates, const uint8_t *input,
+                             size_t input_len, const uint8_t *name, size_t name_len, uint32_t *records, size_t records_len,
+                             uint8_t *text, size_t text_len, uint32_t *list, size_t list_len);
 
 /*
  * Reads a query string once, as qs_parse does, and then the text of the root's field of each name, as qs_text does. The names lie
@@ -124,9 +125,10 @@ struct qs_field_read qs_list(uint32_t depth, uint32_t form, uint32_t duplicates,
  * accepted, whatever the answers are. The rest of answers stays as it was, and all of it does under every number but 0. 24 and 25
  * leave records and text as they were too.
  */
-struct qs_reading qs_fields(uint32_t depth, uint32_t form, uint32_t duplicates, const uint8_t *input, size_t input_len,
-                            const uint8_t *names, size_t names_len, const uint32_t *ends, size_t ends_len, uint32_t *records,
-                            size_t records_len, uint8_t *text, size_t text_len, uint32_t *answers, size_t answers_len);
+struct qs_reading qs_fields(uint32_t depth, uint32_t form, uint32_t zeros, uint32_t duplicates, const uint8_t *input,
+                            size_t input_len, const uint8_t *names, size_t names_len, const uint32_t *ends, size_t ends_len,
+                            uint32_t *records, size_t records_len, uint8_t *text, size_t text_len, uint32_t *answers,
+                            size_t answers_len);
 
 /*
  * Reads a query string as qs_parse does, and then writes the sheet of its tree into page: a line of QS_SHEET_LINE bytes for each
@@ -135,20 +137,22 @@ struct qs_reading qs_fields(uint32_t depth, uint32_t form, uint32_t duplicates, 
  * ends in '>', and a byte outside 33 to 126 shows as '.'. The rest of page stays as it was, and all of it does under every number
  * but 0.
  */
-struct qs_reading qs_sheet(uint32_t depth, uint32_t form, const uint8_t *input, size_t input_len, uint32_t *records,
-                           size_t records_len, uint8_t *text, size_t text_len, uint8_t *page, size_t page_len);
+struct qs_reading qs_sheet(uint32_t depth, uint32_t form, uint32_t zeros, const uint8_t *input, size_t input_len,
+                           uint32_t *records, size_t records_len, uint8_t *text, size_t text_len, uint8_t *page,
+                           size_t page_len);
 
 /*
- * Reads a query string as qs_parse does, and then writes its tree into out as a query string again: read at the same depth and form
- * with as many records and as much text as are used, it gives that tree. It has one pair for each single value, an '&' between two,
- * in the order of keys but an empty key last in its map; of an uninitialized root it is a lone '&', and of an empty input it is
- * empty. A space is written as '+'. The bytes %+&=[] are written as lower-case escapes, and so is the first digit of a string key
- * that would be read as an integer; a key that has the brackets past the depth in it keeps its first '['. Other bytes stand as they
- * are. The rest of out stays as it was, and all of it does under every number but 0. 26 leaves records and text as the reading left
- * them.
+ * Reads a query string as qs_parse does, and then writes its tree into out as a query string again: read at the same depth, form
+ * and zeros with as many records and as much text as are used, it gives that tree. It has one pair for each single value, an '&'
+ * between two, in the order of keys but an empty key last in its map; of an uninitialized root it is a lone '&', and of an empty
+ * input it is empty. A space is written as '+'. The bytes %+&=[] are written as lower-case escapes, and so is the first digit of a
+ * string key that would be read as an integer; a key that has the brackets past the depth in it keeps its first '['. Other bytes
+ * stand as they are. The rest of out stays as it was, and all of it does under every number but 0. 26 leaves records and text as
+ * the reading left them.
  */
-struct qs_written qs_write(uint32_t depth, uint32_t form, const uint8_t *input, size_t input_len, uint32_t *records,
-                           size_t records_len, uint8_t *text, size_t text_len, uint8_t *out, size_t out_len);
+struct qs_written qs_write(uint32_t depth, uint32_t form, uint32_t zeros, const uint8_t *input, size_t input_len,
+                           uint32_t *records, size_t records_len, uint8_t *text, size_t text_len, uint8_t *out,
+                           size_t out_len);
 
 #ifdef __cplusplus
 }

@@ -1,5 +1,6 @@
 #!/usr/bin/env bash
-# Runs the layout program: rust/layout.sh TICKET [NAME...], or with --sheet TICKET, --write TICKET or --segment SEGMENT.
+# Runs the layout program: rust/layout.sh TICKET [NAME...], or with --sheet TICKET, --write TICKET or --segment SEGMENT; all but the
+# last also with --zeros in front.
 # It proves and builds the library and the program first where their sources are newer.
 # It needs rt and rustc, and no crate but ours.
 set -eu

@@ -16,6 +16,7 @@
 #[path = "../tests/common/mod.rs"]
 mod common;
 
+use common::crate_config;
 use common::kinds::{joined, ordered, pairs, plate, Kind, HARD, USUAL};
 use common::orders::{falling, rising};
 use qs::{refusal, Config, DuplicateKeyBehavior::TakeLast, Names, ANSWER_WORDS};
@@ -31,6 +32,11 @@ against, each the least of its turns. Growth is our time at 40,000 bytes over th
 const PARSE: &str = "
 qs_parse against the crate's parse. Ours: reading, and clearing what isn't used of n + 1 records and n bytes of text.
 The crate's: making its tree and dropping it.
+";
+
+const PADDED: &str = "
+qs_parse where zeros in front of a number count, against the crate's parse of the same input, for which they don't: a string key each
+for us, and a number for the crate.
 ";
 
 const FIELDS: &str = "
@@ -70,7 +76,13 @@ fn main() {
     wanted.table(
         PARSE,
         &SIZES,
-        kinds().map(|kind| (kind.name, |length| parse(kind, length))),
+        kinds().map(|kind| (kind.name, |length| parse(kind, false, length))),
+    );
+    let padded = PADDED_KINDS.iter();
+    wanted.table(
+        PADDED,
+        &SIZES,
+        padded.map(|kind| (kind.name, |length| parse(kind, true, length))),
     );
     let fields = FIELD_READS.iter();
     wanted.table(
@@ -207,11 +219,33 @@ fn time(call: &mut impl FnMut()) -> Duration {
     start.elapsed()
 }
 
-/// A reading by us and by the crate.
-fn parse(kind: &Kind, length: usize) -> Times {
+/// Numbers that have a zero in front, however many of them fit.
+const PADDED_KINDS: [Kind; 3] = [
+    Kind {
+        name: "folders 00000=v&00001=v",
+        depth: 5,
+        make: |length| pairs(length, |i| format!("{i:05}=v")),
+    },
+    Kind {
+        name: "folders f[00000]=v&f[00001]=v",
+        depth: 5,
+        make: |length| pairs(length, |i| format!("f[{i:05}]=v")),
+    },
+    Kind {
+        name: "folders of forty digits",
+        depth: 5,
+        make: |length| pairs(length, |i| format!("{i:040}=v")),
+    },
+];
+
+/// A reading by us, with zeros in front of a number counting or not, and by the crate.
+fn parse(kind: &Kind, zeros: bool, length: usize) -> Times {
     let input = (kind.make)(length);
     let depth = kind.depth;
-    let config = Config { depth, form: false };
+    let config = Config {
+        zeros,
+        ..crate_config(depth, false)
+    };
     let (mut records, mut text) = qs::buffers(input.len());
     Times::least(
         || {
@@ -452,9 +486,8 @@ impl Writing {
     fn new(kind: &Kind, length: usize) -> Self {
         let input = (kind.make)(length);
         let (records, text) = qs::buffers(input.len());
-        let (depth, form) = (kind.depth, false);
         Writing {
-            config: Config { depth, form },
+            config: crate_config(kind.depth, false),
             out: vec![0; qs::write_room(input.len())],
             input,
             records,

@@ -82,6 +82,12 @@ pub fn file() -> Vec<u8> {
     file
 }
 
+/// Settings that the crate has too, since the answers are its own.
+fn config(depth: u32, form: bool) -> Config {
+    let zeros = false;
+    Config { depth, form, zeros }
+}
+
 /// The cases so far: how many, and what is written of them. `seen` keeps a case from being stored twice.
 #[derive(Default)]
 struct Store {
@@ -93,9 +99,9 @@ struct Store {
 impl Store {
     fn inputs_to_try(&mut self) {
         for (input, form) in INPUTS_TO_TRY {
-            self.add(Config { depth: 5, form }, input, MOST_WORDS, MOST_BYTES);
+            self.add(config(5, form), input, MOST_WORDS, MOST_BYTES);
         }
-        let depth = |depth| Config { depth, form: false };
+        let depth = |depth| config(depth, false);
         for input in [b"a[b][c]=v", &b"a[b][]=v"[..]] {
             self.add(depth(1), input, MOST_WORDS, MOST_BYTES);
         }
@@ -117,16 +123,16 @@ impl Store {
     fn limits(&mut self) {
         for form in [false, true] {
             for depth in (MAX_DEPTH - 1..=MAX_DEPTH + 2).chain([u32::MAX]) {
-                self.add(Config { depth, form }, b"a[b]=1", 6 * WIDTH, 6);
+                self.add(config(depth, form), b"a[b]=1", 6 * WIDTH, 6);
             }
             for words in 0..2 * WIDTH + 2 {
                 for input in [&b""[..], b"&", b"a", b"=1", b"a["] {
-                    self.add(Config { depth: 5, form }, input, words, 1);
+                    self.add(config(5, form), input, words, 1);
                 }
             }
             for depth in DEPTHS {
                 let nested = [&b"a"[..], &b"[b]".repeat(70), b"=1"].concat();
-                self.add(Config { depth, form }, &nested, MOST_WORDS, MOST_BYTES);
+                self.add(config(depth, form), &nested, MOST_WORDS, MOST_BYTES);
             }
         }
     }
@@ -159,18 +165,14 @@ impl Store {
                 (1, format!("a[b][{key}]=v")),
                 (0, format!("{key}[0]=v")),
             ] {
-                let config = Config { depth, form: false };
-                self.add(config, input.as_bytes(), MOST_WORDS, MOST_BYTES);
+                self.add(
+                    config(depth, false),
+                    input.as_bytes(),
+                    MOST_WORDS,
+                    MOST_BYTES,
+                );
             }
-            self.add(
-                Config {
-                    depth: 5,
-                    form: true,
-                },
-                key.as_bytes(),
-                2 * WIDTH,
-                0,
-            );
+            self.add(config(5, true), key.as_bytes(), 2 * WIDTH, 0);
         }
     }
 
@@ -180,7 +182,7 @@ impl Store {
         for _ in 0..210 {
             for depth in DEPTHS {
                 for form in [false, true] {
-                    let config = Config { depth, form };
+                    let config = config(depth, form);
                     let pairs = 1 + random.below(6);
                     let input = query(&mut random, pairs);
                     let (words, bytes) = match random.below(3) {
@@ -194,11 +196,7 @@ impl Store {
         }
         for length in [1_000, 2_000, 3_000] {
             let input = long_query(&mut random, length);
-            let config = Config {
-                depth: 5,
-                form: false,
-            };
-            self.add(config, &input, MOST_WORDS, MOST_BYTES);
+            self.add(config(5, false), &input, MOST_WORDS, MOST_BYTES);
         }
     }
 

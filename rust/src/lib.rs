@@ -21,6 +21,7 @@ mod c {
         pub fn qs_parse(
             depth: u32,
             form: u32,
+            zeros: u32,
             input: *const u8,
             input_len: usize,
             records: *mut u32,
@@ -31,6 +32,7 @@ mod c {
         pub fn qs_text(
             depth: u32,
             form: u32,
+            zeros: u32,
             duplicates: u32,
             input: *const u8,
             input_len: usize,
@@ -44,6 +46,7 @@ mod c {
         pub fn qs_list(
             depth: u32,
             form: u32,
+            zeros: u32,
             duplicates: u32,
             input: *const u8,
             input_len: usize,
@@ -59,6 +62,7 @@ mod c {
         pub fn qs_fields(
             depth: u32,
             form: u32,
+            zeros: u32,
             duplicates: u32,
             input: *const u8,
             input_len: usize,
@@ -76,6 +80,7 @@ mod c {
         pub fn qs_sheet(
             depth: u32,
             form: u32,
+            zeros: u32,
             input: *const u8,
             input_len: usize,
             records: *mut u32,
@@ -88,6 +93,7 @@ mod c {
         pub fn qs_write(
             depth: u32,
             form: u32,
+            zeros: u32,
             input: *const u8,
             input_len: usize,
             records: *mut u32,
@@ -145,6 +151,8 @@ pub struct Config {
     pub depth: u32,
     /// Whether `%5B` and `%5D` are taken as brackets.
     pub form: bool,
+    /// Whether zeros in front of a number count: `07` is a string key then, another than `7`; `0` alone stays a number.
+    pub zeros: bool,
 }
 
 impl Config {
@@ -159,6 +167,7 @@ impl Default for Config {
         Config {
             depth: 5,
             form: false,
+            zeros: false,
         }
     }
 }
@@ -202,12 +211,26 @@ pub fn buffers(length: usize) -> (Vec<u32>, Vec<u8>) {
 /// let reading = qs::parse(qs::Config::default(), b"a[", &mut records, &mut text);
 /// assert_eq!((reading.number, reading.place), (4, 3));
 /// ```
+///
+/// Where zeros in front of a number don't count, `007` and `7` are one key; where they do, these are two.
+///
+/// ```
+/// use qs::{refusal, Config};
+/// let (input, (mut records, mut text)) = (b"007=1&7[b]=2", qs::buffers(12));
+/// let reading = qs::parse(Config::default(), input, &mut records, &mut text);
+/// assert_eq!((reading.number, reading.place), (refusal::MAP_ON_STRING, 9));
+/// let zeros = Config { zeros: true, ..Config::default() };
+/// let reading = qs::parse(zeros, input, &mut records, &mut text);
+/// assert_eq!((reading.number, reading.records, reading.bytes), (0, 4, 6));
+/// assert_eq!(&text[..6], b"0071b2");
+/// ```
 pub fn parse(config: Config, input: &[u8], records: &mut [u32], text: &mut [u8]) -> Reading {
     // SAFETY: the slices live through the call, and `records` and `text` are lent to it alone.
     unsafe {
         c::qs_parse(
             config.depth,
             config.form.into(),
+            config.zeros.into(),
             input.as_ptr(),
             input.len(),
             records.as_mut_ptr(),
@@ -279,6 +302,7 @@ pub fn text(
         c::qs_text(
             config.depth,
             config.form.into(),
+            config.zeros.into(),
             duplicates.flag(),
             input.as_ptr(),
             input.len(),
@@ -320,6 +344,7 @@ pub fn list(
         c::qs_list(
             config.depth,
             config.form.into(),
+            config.zeros.into(),
             duplicates.flag(),
             input.as_ptr(),
             input.len(),
@@ -404,6 +429,7 @@ pub fn fields_into(
         c::qs_fields(
             config.depth,
             config.form.into(),
+            config.zeros.into(),
             duplicates.flag(),
             input.as_ptr(),
             input.len(),
@@ -557,6 +583,7 @@ pub fn sheet(
         c::qs_sheet(
             config.depth,
             config.form.into(),
+            config.zeros.into(),
             input.as_ptr(),
             input.len(),
             records.as_mut_ptr(),
@@ -626,6 +653,7 @@ pub fn write(
         c::qs_write(
             config.depth,
             config.form.into(),
+            config.zeros.into(),
             input.as_ptr(),
             input.len(),
             records.as_mut_ptr(),

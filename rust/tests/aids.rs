@@ -9,7 +9,10 @@ mod common;
 use common::kinds::{apart, joined, Kind, HARD, USUAL};
 use common::mixtures::{mixture, NESTINGS, SHAPES};
 use common::orders::{self, ORDERS};
-use common::{outcome, random_config, reference_is_there, settings, times, tree, Random};
+use common::{
+    both_zeros, crate_config, outcome, random_config, reference_is_there, settings, times, tree,
+    Random,
+};
 use model::Outcome;
 use qs::row::WIDTH;
 use qs::DuplicateKeyBehavior::TakeLast;
@@ -90,12 +93,12 @@ impl Readings<'_> {
         got
     }
 
-    /// With buffers that always suffice; and the crate's tree, or its refusal and place.
+    /// With buffers that always suffice; and the crate's tree, or its refusal and place, where it has the settings too.
     fn compare_ample(&mut self) -> Outcome {
         let (words, bytes) = qs::room(self.input.len());
         let got = self.compare(words, bytes);
-        if self.counts.reference {
-            let Config { depth, form } = self.config;
+        if self.counts.reference && !self.config.zeros {
+            let Config { depth, form, .. } = self.config;
             let expected = serde_qs_reference::parse(self.input, depth as usize, form);
             let meant = match got.number {
                 refusal::ACCEPTED => Ok(tree(&got.words, &got.text)),
@@ -193,7 +196,11 @@ fn thousands_of_keys() {
     for (name, shape) in SHAPES {
         let pairs = NESTINGS[0].pairs(times(3_000).min(4_000), orders::shuffled, shape);
         let input = joined(Config::MAX_LEN, pairs);
-        counts.of(format!("many {name}"), &input).compare_ample();
+        for config in both_zeros(Config::default()) {
+            let mut readings = counts.of(format!("many {name}"), &input);
+            readings.config = config;
+            readings.compare_ample();
+        }
     }
     counts.report(&[refusal::ACCEPTED]);
 }
@@ -248,11 +255,13 @@ fn kinds() {
     for Kind { name, depth, make } in USUAL.iter().chain(&HARD) {
         for length in [700, 6_000, times(12_000).min(40_000)] {
             let input = make(length);
-            let mut readings = counts.of(format!("{name}, {length}"), &input);
-            readings.config.depth = *depth;
-            match length {
-                700 => readings.compare_scant(),
-                _ => drop(readings.compare_ample()),
+            for config in both_zeros(crate_config(*depth, false)) {
+                let mut readings = counts.of(format!("{name}, {length}"), &input);
+                readings.config = config;
+                match length {
+                    700 => readings.compare_scant(),
+                    _ => drop(readings.compare_ample()),
+                }
             }
         }
     }
@@ -390,16 +399,16 @@ fn fields() {
     let mut numbers = Vec::new();
     for Kind { depth, make, .. } in USUAL.iter().chain(&HARD) {
         let input = make(3_000);
-        let depth = *depth;
-        let config = Config { depth, form: false };
         let pairs: Vec<&[u8]> = input.split(|&byte| byte == b'&').collect();
         for pair in [pairs[0], pairs[pairs.len() / 2], pairs[pairs.len() - 1]] {
             let end = pair.iter().position(|byte| b"=[".contains(byte));
             let name = &pair[..end.unwrap_or(pair.len())];
             let ample = WIDTH * (input.len() + 1);
-            for words in [ample, ample / 2, ample / 4] {
-                compare_text(config, &input, name, words);
-                numbers.push(compare_list(config, &input, name, words));
+            for config in both_zeros(crate_config(*depth, false)) {
+                for words in [ample, ample / 2, ample / 4] {
+                    compare_text(config, &input, name, words);
+                    numbers.push(compare_list(config, &input, name, words));
+                }
             }
         }
     }

@@ -6,7 +6,7 @@ mod common;
 use common::inputs::query;
 use common::rows::{expected, leaves, Expected, Row};
 use common::whatwg::{pairs, splits_as_the_standard};
-use common::{every_string, times, tree, Random};
+use common::{crate_config, every_string, times, tree, Random};
 use qs::{refusal, Config};
 use serde_qs_reference::{Key, Tree};
 
@@ -202,10 +202,7 @@ fn beside_the_rows() {
         let read = read(Config::default(), input.as_bytes());
         assert_eq!(read, Ok(here), "{input}");
     }
-    let whole = Config {
-        depth: 0,
-        form: false,
-    };
+    let whole = crate_config(0, false);
     assert_eq!(read(whole, b"[a][]"), Ok(name("[a][]")));
 }
 
@@ -248,7 +245,7 @@ impl Search {
         self.inputs += 1;
         for setting in 0..6 {
             let (depth, form) = (setting / 2, setting % 2 == 1);
-            let config = Config { depth, form };
+            let config = crate_config(depth, form);
             let expected = expected(config, input);
             let here = read(config, input).map(|tree| leaves(&tree));
             let here = here.map_err(|(number, _)| number);

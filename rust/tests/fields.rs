@@ -6,8 +6,8 @@ mod common;
 
 use common::inputs::{fields_query, query, BYTES, NAMES};
 use common::{
-    every_string, lent, outcome, parsed, random_config, random_duplicates, reference_is_there,
-    settings, times, Numbers, Random, BEFORE,
+    crate_config, every_string, lent, outcome, parsed, random_config, random_crate_config,
+    random_duplicates, reference_is_there, settings, times, Numbers, Random, BEFORE,
 };
 use model::{FieldOutcome, Outcome};
 use qs::row::{part, WIDTH};
@@ -102,7 +102,7 @@ impl Read<'_> {
     /// The crate's text and list. Its names are text.
     fn reference(self) -> Meant {
         let name = std::str::from_utf8(self.name).expect("the crate's names are text");
-        let Config { depth, form } = self.config;
+        let Config { depth, form, .. } = self.config;
         let duplicates = self.duplicates == Error;
         (
             serde_qs_reference::text(self.input, depth as usize, form, duplicates, name),
@@ -215,7 +215,7 @@ fn every_short_input() {
     }
     let mut counts = Counts::default();
     for (depth, form) in [(0, false), (1, true), (5, false)] {
-        let config = Config { depth, form };
+        let config = crate_config(depth, form);
         every_string(BYTES, 4, |input| {
             for (duplicates, name) in [
                 (TakeLast, &b"a"[..]),
@@ -248,7 +248,7 @@ fn random_and_damaged_inputs() {
     let mut counts = Counts::default();
     let inputs = times(30_000);
     for turn in 0..inputs {
-        let config = random_config(&mut random);
+        let config = random_crate_config(&mut random);
         let duplicates = random_duplicates(&mut random);
         let pairs = 1 + random.below(8);
         let input = &match turn % 2 {
@@ -387,10 +387,7 @@ fn a_field_of_the_wrong_kind_with_any_slice() {
 #[test]
 fn untouched_buffers() {
     let long = [b'&'; Config::MAX_LEN + 1];
-    let deep = Config {
-        depth: Config::MAX_DEPTH + 1,
-        form: false,
-    };
+    let deep = crate_config(Config::MAX_DEPTH + 1, false);
     let cases: [(Config, &[u8], usize, u32); 3] = [
         (deep, b"a=1", 8 * WIDTH, refusal::TOO_DEEP),
         (Config::default(), &long, 8 * WIDTH, refusal::TOO_LONG),

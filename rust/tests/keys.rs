@@ -4,7 +4,9 @@
 
 mod common;
 
-use common::{every_string, lent, parsed, reference_is_there, settings, times, tree, Random};
+use common::{
+    crate_config, every_string, lent, parsed, reference_is_there, settings, times, tree, Random,
+};
 use qs::{refusal, Config};
 use serde_qs_reference::{decode, Key, Tree};
 
@@ -49,7 +51,7 @@ const fn place(
     path: &'static [Step],
 ) -> Place {
     Place {
-        config: Config { depth, form },
+        config: crate_config(depth, form),
         before,
         behind,
         path,

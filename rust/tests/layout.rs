@@ -159,7 +159,7 @@ fn a_mixture_of_names() {
 /// What the crate's reads of one field make of it: its text where it has one, and its elements where they are more than that one text;
 /// else why it can't be read.
 fn of_the_crate(input: &[u8], name: &str) -> Result<String, String> {
-    let Config { depth, form } = Config::default();
+    let Config { depth, form, .. } = Config::default();
     let text = serde_qs_reference::text(input, depth as usize, form, false, name);
     let list = serde_qs_reference::list(input, depth as usize, form, false, name);
     let quoted = |bytes: &[u8]| format!("{:?}", std::str::from_utf8(bytes).expect("a text"));
@@ -317,6 +317,41 @@ fn a_ticket_is_written_byte_for_byte() {
     assert_eq!(run(&["--write", &"]".repeat(21_846)]), refused);
 }
 
+/// A ticket of folders, with zeros in front not counting and counting, in every way that it is shown.
+#[test]
+fn zeros_in_front_count_where_asked() {
+    let folders = "7=a&007=b&p[0]=x&p[01]=y";
+    let shown = |lines: &str| (Some(0), lines.to_owned(), String::new());
+    let told = |number, name: &str| {
+        let told = format!("layout: {name:?}: {}\n", meaning(number));
+        (Some(1), String::new(), told)
+    };
+    let root = "accepted: records used 7, bytes of text used 5\n7, a number and no name: sequence\n\"p\": map\n";
+    assert_eq!(run(&[folders]), shown(root));
+    let root = "accepted: records used 6, bytes of text used 10\n7, a number and no name: string \"a\"\n\"007\": string \"b\"\n\"p\": map\n";
+    assert_eq!(run(&["--zeros", folders]), shown(root));
+    assert_eq!(run(&[folders, "007"]), told(refusal::NO_SUCH_FIELD, "007"));
+    let field = shown("\"007\" = \"b\"\n");
+    assert_eq!(run(&["--zeros", folders, "007"]), field);
+    let list = shown("\"p\"[0] = \"x\"\n\"p\"[1] = \"y\"\n");
+    assert_eq!(run(&[folders, "p"]), list);
+    let no_list = told(refusal::WRONG_KIND, "p");
+    assert_eq!(run(&["--zeros", folders, "p"]), no_list);
+    let ticket = shown("7[]=a&7[]=b&p[0]=x&p[1]=y");
+    assert_eq!(run(&["--write", folders]), ticket);
+    let ticket = shown("7=a&007=b&p[0]=x&p[01]=y");
+    assert_eq!(run(&["--zeros", "--write", folders]), ticket);
+    let sheet = |lines: [&str; 2]| shown(&lines.map(|line| format!("{line:72}\n")).concat());
+    let number = sheet(["  0       map", "  1       nova 7"]);
+    assert_eq!(run(&["--sheet", "07"]), number);
+    let string = sheet(["  0       map", "  1       nova 07"]);
+    assert_eq!(run(&["--zeros", "--sheet", "07"]), string);
+    // behind another option it is the ticket, and behind a ticket a name
+    assert_eq!(run(&["--write", "--zeros"]), shown("--zeros"));
+    let name = shown("\"--zeros\" = \"\"\n");
+    assert_eq!(run(&["--zeros&7=a", "--zeros"]), name);
+}
+
 #[test]
 fn a_refused_input_is_marked() {
     let told =
@@ -326,6 +361,8 @@ fn a_refused_input_is_marked() {
         &["a[b]=1&a[]=2", "a", "b"],
         &["--sheet", "a[b]=1&a[]=2"],
         &["--write", "a[b]=1&a[]=2"],
+        &["--zeros", "a[b]=1&a[]=2"],
+        &["--zeros", "--sheet", "a[b]=1&a[]=2"],
     ] {
         assert_eq!(run(arguments), (Some(1), String::new(), told.into()));
     }
@@ -399,12 +436,22 @@ fn bad_usage_is_told_apart() {
         &["--sheet", "a", "b"],
         &["--write"],
         &["--write", "a", "b"],
+        &["--zeros"],
+        &["--zeros", "--zeros"],
+        &["--zeros", "--zeros", "a"],
+        &["--zeros", "--segment"],
+        &["--zeros", "--segment", "a"],
+        &["--zeros", "--sheet"],
+        &["--zeros", "--sheet", "a", "b"],
+        &["--zeros", "--write", "a", "b"],
+        &["--sheet", "--zeros", "a"],
     ] {
         let (status, written, told) = run(arguments);
         assert_eq!((status, written.as_str()), (Some(2), ""));
-        assert!(told.starts_with("usage: layout TICKET [NAME...]\n"));
-        assert!(told.contains("\n       layout --sheet TICKET\n"));
-        assert!(told.contains("\n       layout --write TICKET\n"));
+        assert!(told.starts_with("usage: layout [--zeros] TICKET [NAME...]\n"));
+        assert!(told.contains("\n       layout [--zeros] --sheet TICKET\n"));
+        assert!(told.contains("\n       layout [--zeros] --write TICKET\n"));
+        assert!(told.ends_with("\n       layout --segment SEGMENT\n"));
     }
 }
 

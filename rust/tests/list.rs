@@ -75,7 +75,8 @@ fn values(tree: &Tree, level: usize, key: &str, lines: &mut String) {
 /// Holds the program against the model, and gives what both print.
 fn compare(program: &Path, depth: u32, form: bool, query: &[u8]) -> String {
     let printed = print(program, &input(depth, form, query));
-    let expected = listing(Config { depth, form }, query);
+    let zeros = false;
+    let expected = listing(Config { depth, form, zeros }, query);
     assert!(
         printed == expected,
         "depth {depth}, form {form}, {} bytes '{}': {} bytes printed, {} expected",

@@ -8,8 +8,8 @@ mod common;
 use common::inputs::{fields_query, query, BYTES, NAMES};
 use common::kinds::{Kind, USUAL};
 use common::{
-    every_string, lent, outcome, parsed, random_config, random_duplicates, reference_is_there,
-    settings, times, tree, Numbers, Random, BEFORE,
+    crate_config, every_string, lent, outcome, parsed, random_config, random_crate_config,
+    random_duplicates, reference_is_there, settings, times, tree, Numbers, Random, BEFORE,
 };
 use model::{FieldsOutcome, Outcome};
 use qs::row::{part, WIDTH};
@@ -116,7 +116,7 @@ impl<'a> Asked<'a> {
 
     /// The crate's text of one name.
     fn reference(self, name: &str) -> Result<Vec<u8>, u32> {
-        let Config { depth, form } = self.config;
+        let Config { depth, form, .. } = self.config;
         let duplicates = self.duplicates == Error;
         serde_qs_reference::text(self.input, depth as usize, form, duplicates, name)
     }
@@ -247,7 +247,7 @@ fn every_short_input() {
         every_string(BYTES, 4, |input| {
             for duplicates in [TakeLast, Error] {
                 counts.with_the_crate(Asked {
-                    config: Config { depth, form },
+                    config: crate_config(depth, form),
                     duplicates,
                     input,
                     names: names(&laid),
@@ -280,7 +280,7 @@ fn random_and_damaged_inputs() {
             .map(|_| NAMES[random.below(NAMES.len())])
             .collect();
         counts.with_the_crate(Asked {
-            config: random_config(&mut random),
+            config: random_crate_config(&mut random),
             duplicates: random_duplicates(&mut random),
             input,
             names: names(&laid_out(&drawn)),
@@ -496,7 +496,7 @@ impl Met {
         let depth = Config::MAX_DEPTH + self.count(refusal::TOO_DEEP) as u32;
         let ends = [&[1, 2, 2], &[1, 2, 1]][self.count(refusal::WRONG_ENDS)];
         Asked {
-            config: Config { depth, form: false },
+            config: crate_config(depth, false),
             ..usual(input, Names { bytes: b"ab", ends })
         }
     }
@@ -608,7 +608,7 @@ fn an_empty_list_reads() {
         (5, "a=1", WIDTH, 14),
         (5, "a=123456789", 8 * WIDTH, 15),
     ] {
-        let config = Config { depth, form: false };
+        let config = crate_config(depth, false);
         let input = input.as_bytes();
         for (bytes, answers) in [(&b""[..], 0), (b"", 1), (b"ab", 0), (b"ab", 5)] {
             let none = usual(input, Names { bytes, ends: &[] });
@@ -760,10 +760,7 @@ fn kinds() {
     let mut random = Random::new(43);
     let mut counts = Counts::default();
     for Kind { depth, make, .. } in &USUAL {
-        let config = Config {
-            depth: *depth,
-            form: false,
-        };
+        let config = crate_config(*depth, false);
         let input = make(times(10_000).min(Config::MAX_LEN));
         let (words, bytes) = qs::room(input.len());
         let reading = parsed(config, &input, words, bytes);
@@ -900,7 +897,7 @@ fn a_refused_reading_is_the_error() {
         (5, b"abc=1", 4 * WIDTH, 15, 6),
     ];
     for (depth, input, words, number, place) in cases {
-        let config = Config { depth, form: false };
+        let config = crate_config(depth, false);
         for names in [&["a"][..], &[]] {
             let (mut records, mut text) = lent(words, 2);
             let fields = qs::fields(config, Error, input, names, &mut records, &mut text);

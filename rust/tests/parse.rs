@@ -5,8 +5,8 @@ mod common;
 
 use common::inputs::{long_query, query, BYTES};
 use common::{
-    every_string, lent, parsed, random_config, reference_is_there, settings, times, tree, Numbers,
-    Random,
+    both_zeros, crate_config, every_string, lent, parsed, random_config, random_crate_config,
+    reference_is_there, settings, times, tree, Numbers, Random,
 };
 use qs::row::{self, WIDTH};
 use qs::{refusal, Config};
@@ -48,10 +48,11 @@ impl Counts {
     }
 }
 
+/// Settings that the crate has too.
 fn configs() -> impl Iterator<Item = Config> {
     [0, 1, 2, 5]
         .into_iter()
-        .flat_map(|depth| [false, true].map(|form| Config { depth, form }))
+        .flat_map(|depth| [false, true].map(|form| crate_config(depth, form)))
 }
 
 #[test]
@@ -77,13 +78,13 @@ fn random_and_damaged_inputs() {
     let mut random = Random::new(11);
     let mut counts = Counts::default();
     for _ in 0..times(100_000) {
-        let config = random_config(&mut random);
+        let config = random_crate_config(&mut random);
         let pairs = 1 + random.below(8);
         let input = query(&mut random, pairs);
         counts.with_the_crate(config, &input);
     }
     for _ in 0..times(20) {
-        let config = random_config(&mut random);
+        let config = random_crate_config(&mut random);
         let length = random.below(Config::MAX_LEN + 1);
         let input = long_query(&mut random, length);
         counts.with_the_crate(config, &input);
@@ -102,7 +103,7 @@ fn every_small_buffer() {
     let mut counts = Counts::default();
     let short = [0, WIDTH - 1, WIDTH, 2 * WIDTH - 1];
     let sizes = [short, [2, 3, 4, 5].map(|records| records * WIDTH)].concat();
-    for config in configs() {
+    for config in configs().flat_map(both_zeros) {
         every_string(b"a0[]&=%", 4, |input| {
             for &words in &sizes {
                 for bytes in 0..5 {
@@ -142,7 +143,9 @@ fn limits() {
     let (deepest, longest) = (Config::MAX_DEPTH, Config::MAX_LEN);
     for depth in (deepest - 1..=deepest + 2).chain([0, 5, u32::MAX]) {
         for form in [false, true] {
-            counts.with_the_model(Config { depth, form }, b"a[b]=1", 6 * WIDTH, 12);
+            for config in both_zeros(crate_config(depth, form)) {
+                counts.with_the_model(config, b"a[b]=1", 6 * WIDTH, 12);
+            }
         }
     }
     for length in longest - 1..=longest + 2 {
@@ -160,7 +163,9 @@ fn limits() {
         .collect::<Vec<_>>();
     let (words, bytes) = qs::room(nested.len());
     for depth in [1, 5, deepest - 1, deepest] {
-        counts.with_the_model(Config { depth, form: false }, &nested, words, bytes);
+        for config in both_zeros(crate_config(depth, false)) {
+            counts.with_the_model(config, &nested, words, bytes);
+        }
     }
     counts.report("both sides of each limit", &[0, 1, 2, 14]);
 }
@@ -199,7 +204,7 @@ fn named_cases() {
     let longest = "&".repeat(Config::MAX_LEN);
     assert_eq!(answer(usual, &longest, 1, 0), (0, 0, 1, 0));
     assert_eq!(answer(usual, &(longest + "&"), 1, 0), (2, 0, 0, 0));
-    let depth = |depth| Config { depth, form: false };
+    let depth = |depth| crate_config(depth, false);
     let deepest = Config::MAX_DEPTH;
     assert_eq!(answer(depth(deepest), "a", 2, 1), (0, 0, 2, 1));
     assert_eq!(answer(depth(deepest + 1), "a", 2, 1), (1, 0, 0, 0));

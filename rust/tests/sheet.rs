@@ -8,7 +8,8 @@ use common::inputs::{fields_query, long_query, query, BYTES};
 use common::kinds::{Kind, HARD, USUAL};
 use common::mixtures::mixture;
 use common::{
-    every_string, lent, outcome, parsed, random_config, settings, times, Numbers, Random,
+    both_zeros, crate_config, every_string, lent, outcome, parsed, random_config, settings, times,
+    Numbers, Random,
 };
 use model::SheetOutcome;
 use qs::row::{self, WIDTH};
@@ -205,7 +206,8 @@ fn printed(config: Config, input: &[u8]) -> String {
 fn configs() -> impl Iterator<Item = Config> {
     [0, 1, 2, 5, Config::MAX_DEPTH]
         .into_iter()
-        .flat_map(|depth| [false, true].map(|form| Config { depth, form }))
+        .flat_map(|depth| [false, true].map(|form| crate_config(depth, form)))
+        .flat_map(both_zeros)
 }
 
 #[test]
@@ -216,7 +218,7 @@ fn every_short_input() {
         every_string(b"a0[]&=", 5, |input| drop(counts.around(config, input)));
     }
     counts.report(
-        "every input of up to 3 bytes over 12 and 5 over 6, at 10 settings",
+        "every input of up to 3 bytes over 12 and 5 over 6, at 20 settings",
         &[0, 4, 5, 6, 8, 9, 10, 11, 12, 13, 23],
     );
 }
@@ -274,12 +276,10 @@ fn random_and_damaged_inputs() {
 fn kinds() {
     let mut counts = Counts::default();
     for Kind { depth, make, .. } in USUAL.iter().chain(&HARD) {
-        let config = Config {
-            depth: *depth,
-            form: false,
-        };
-        for length in [700, times(6_000).min(Config::MAX_LEN)] {
-            counts.around(config, &make(length));
+        for config in both_zeros(crate_config(*depth, false)) {
+            for length in [700, times(6_000).min(Config::MAX_LEN)] {
+                counts.around(config, &make(length));
+            }
         }
     }
     counts.report("every kind of long input", &[0, 23]);
@@ -292,7 +292,7 @@ fn every_small_buffer() {
     let words = [0, WIDTH - 1, WIDTH, 2 * WIDTH - 1, 2 * WIDTH, 4 * WIDTH];
     let pages = [0, 72, 73, 145, 146, 220, 292];
     for depth in [0, 5] {
-        let config = Config { depth, form: true };
+        let config = crate_config(depth, true);
         every_string(b"a0[]&=%", 3, |input| {
             for words in words {
                 for bytes in 0..4 {
@@ -390,7 +390,7 @@ fn a_short_page() {
 fn untouched_buffers() {
     let mut counts = Counts::default();
     let long = [b'&'; Config::MAX_LEN + 1];
-    let deep = |depth| Config { depth, form: false };
+    let deep = |depth| crate_config(depth, false);
     let (usual, above) = (Config::default(), Config::MAX_DEPTH + 1);
     let cases: [(Config, &[u8], usize, u32); 4] = [
         (deep(above), b"a=1", 8 * WIDTH, refusal::TOO_DEEP),
@@ -549,7 +549,7 @@ fn every_byte() {
 #[test]
 fn the_deepest_level() {
     for (depth, deepest) in [(0, 2), (1, 4), (2, 5), (63, 66), (64, 67)] {
-        let config = Config { depth, form: false };
+        let config = crate_config(depth, false);
         let path = format!("a{}", "[b]".repeat(depth as usize + 1));
         let printed = printed(config, format!("{path}&{path}").as_bytes());
         let levels = printed.lines().map(|line| number(&line.as_bytes()[..3]));

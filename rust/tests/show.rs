@@ -18,7 +18,7 @@ fn program() -> Option<PathBuf> {
 
 /// What it prints before the segments.
 fn settings() -> String {
-    let qs::Config { depth, form } = qs::Config::default();
+    let qs::Config { depth, form, .. } = qs::Config::default();
     format!("depth={depth}\nform={}\n", u8::from(form))
 }
 

@@ -7,7 +7,7 @@ mod store;
 use qs::refusal;
 use qs::row::WIDTH;
 use std::path::Path;
-use store::common::reference_is_there;
+use store::common::{crate_config, reference_is_there};
 
 /// The file as it is stored.
 fn stored() -> Vec<u8> {
@@ -77,10 +77,7 @@ fn replay(front: &mut Front, case: u32) -> usize {
     expected_text[..used as usize].copy_from_slice(front.bytes(used as usize));
     let mut words_left = vec![store::BEFORE.into(); words];
     let mut text_left = vec![store::BEFORE; bytes];
-    let config = qs::Config {
-        depth,
-        form: form == 1,
-    };
+    let config = crate_config(depth, form == 1);
     let reading = qs::parse(config, input, &mut words_left, &mut text_left);
     let expected = qs::Reading {
         number,

@@ -1,262 +1,39 @@
-//! `qs_write`, held against the model: the answer, every word of the records, every byte of the text and every byte of the output, in
-//! outputs of every size. What it answers and leaves besides the output is held against `qs_parse` too, and what it writes is read
-//! back, by itself and by the crate: with just the records and the text that were used it gives the tree again, and the same bytes.
-//! `COMPARE=whole` in the environment makes the random part twenty times as large, and has one piece or pair more in the inputs that
-//! are made of these.
+//! `qs_write`, held against the model: the answer, every word of the records, every byte of the text and every byte of the output,
+//! in outputs of every size. What it answers and leaves besides the output is held against `qs_parse` too, and what it writes is
+//! read back, by itself and, where it has the settings, by the crate: with just the records and the text that were used it gives
+//! the tree again, and the same bytes. `COMPARE=whole` in the environment makes the random part twenty times as large, and has one
+//! piece or pair more in the inputs that are made of these.
 
 mod common;
 
 use common::inputs::{deep_query, fields_query, long_query, query, BYTES};
 use common::kinds::{Kind, HARD, USUAL};
 use common::mixtures::mixture;
+use common::writes::{back, out_before, start, write, written, Counts, Sizes};
 use common::{
-    any_config, every_string, lent, outcome, parsed, random_config, reference_is_there, settings,
-    times, tree, whole, Numbers, Random,
+    any_config, both_zeros, crate_config, every_list, every_string, random_config,
+    reference_is_there, settings, times, whole, Random,
 };
-use model::WriteOutcome;
 use qs::row::{self, WIDTH};
-use qs::{refusal, Config, Reading, Written};
+use qs::{refusal, Config};
 use std::collections::BTreeSet;
 
-/// What an output holds before: marks of a query string among other bytes, and not the same at places that are near each other.
-fn out_before(length: usize) -> Vec<u8> {
-    let byte = |place: usize| b"&=[]%"[place % 5] ^ (place % 127 << 1) as u8;
-    (0..length).map(byte).collect()
-}
-
-/// The buffers' sizes: words, bytes of text, and bytes of the output.
-#[derive(Clone, Copy, Debug)]
-struct Sizes {
-    words: usize,
-    bytes: usize,
-    out: usize,
-}
-
-impl Sizes {
-    /// They suffice for every input of so many bytes.
-    fn ample(length: usize) -> Self {
-        let (words, bytes) = qs::room(length);
-        let out = qs::write_room(length);
-        Sizes { words, bytes, out }
-    }
-
-    fn buffers(self) -> (Vec<u32>, Vec<u8>, Vec<u8>) {
-        let (words, text) = lent(self.words, self.bytes);
-        (words, text, out_before(self.out))
-    }
-}
-
-/// What the library answers and leaves.
-fn write(config: Config, input: &[u8], sizes: Sizes) -> WriteOutcome {
-    let (mut words, mut text, mut out) = sizes.buffers();
-    let Written { reading, length } = qs::write(config, input, &mut words, &mut text, &mut out);
-    WriteOutcome {
-        reading: outcome(reading, words, text),
-        length,
-        out,
-    }
-}
-
-/// The written bytes of an outcome.
-fn ticket(outcome: &WriteOutcome) -> &[u8] {
-    &outcome.out[..outcome.length as usize]
-}
-
-/// The start of an input, for a message.
-fn start(input: &[u8]) -> String {
-    input[..input.len().min(200)].escape_ascii().to_string()
-}
-
-/// How often each number was answered, and how many bytes were written.
-#[derive(Default)]
-struct Counts {
-    numbers: Numbers,
-    bytes: usize,
-}
-
-impl Counts {
-    /// With any buffers: all that the model says, and what a reading leaves.
-    fn compare(&mut self, config: Config, input: &[u8], sizes: Sizes) -> WriteOutcome {
-        let described = || format!("{config:?} {sizes:?} '{}'", start(input));
-        let got = write(config, input, sizes);
-        let number = got.reading.number;
-        self.numbers.count(number);
-        self.bytes += got.length as usize;
-        let (words, text, out) = sizes.buffers();
-        let expected = model::write(settings(config), input, &words, &text, &out);
-        let same = got.reading == expected.reading;
-        assert!(same, "not the model's reading: {}", described());
-        let (written, of_the_model) = (ticket(&got), ticket(&expected));
-        assert!(
-            written == of_the_model,
-            "{}: written '{}' where the model has '{}'",
-            described(),
-            start(written),
-            start(of_the_model)
-        );
-        assert!(
-            got.out == expected.out,
-            "not the model's output: {}",
-            described()
-        );
-        let mut reading = parsed(config, input, sizes.words, sizes.bytes);
-        if refusal::OF_A_WRITING.contains(&number) {
-            assert_eq!(reading.number, refusal::ACCEPTED, "{}", described());
-            reading.number = number;
-        }
-        let same = got.reading == reading;
-        assert!(same, "not the reading of qs_parse: {}", described());
-        if number != refusal::ACCEPTED {
-            assert_eq!(got.length, 0, "{}", described());
-        }
-        let same = got.out[got.length as usize..] == out[got.length as usize..];
-        assert!(same, "changed past the written bytes: {}", described());
-        got
-    }
-
-    /// With records and text that suffice, and outputs around the written bytes: none at all, a byte short, just as long, and longer
-    /// by a byte. A refused reading writes nothing. What is written is read back.
-    fn around(&mut self, config: Config, input: &[u8]) -> WriteOutcome {
-        let ample = Sizes::ample(input.len());
-        let got = self.compare(config, input, ample);
-        let length = got.length as usize;
-        for out in [0, length.saturating_sub(1), length, length + 1] {
-            let around = self.compare(config, input, Sizes { out, ..ample });
-            let number = match got.reading.number {
-                refusal::ACCEPTED if out < length => refusal::SHORT_OUTPUT,
-                number => number,
-            };
-            assert_eq!(
-                around.reading.number,
-                number,
-                "an output of {out} for '{}'",
-                start(input)
-            );
-        }
-        back(config, input, &got);
-        got
-    }
-
-    /// The same in an output that is just as long as it need be, by the model, and one that is a byte shorter.
-    fn just(&mut self, config: Config, input: &[u8]) {
-        let length = model::written(settings(config), input).map_or(0, |ticket| ticket.len());
-        let just = Sizes {
-            out: length,
-            ..Sizes::ample(input.len())
-        };
-        let got = self.compare(config, input, just);
-        if let Some(out) = length.checked_sub(1) {
-            let short = write(config, input, Sizes { out, ..just });
-            assert_eq!(
-                short.reading.number,
-                refusal::SHORT_OUTPUT,
-                "'{}'",
-                start(input)
-            );
-            assert!(
-                short.length == 0 && short.out == out_before(out),
-                "'{}'",
-                start(input)
-            );
-            self.numbers.count(refusal::SHORT_OUTPUT);
-        }
-        back(config, input, &got);
-    }
-
-    fn report(&self, what: &str, numbers: &[u32]) {
-        let what = format!("{what}, {} bytes written,", self.bytes);
-        self.numbers.report(&what, numbers);
-    }
-}
-
-/// Reads back what was written of an accepted input, in buffers that have no more than what the input's tree uses, and that hold
-/// something else before, namely records that lead to each other in a circle. It is accepted and has the same tree, to the crate too,
-/// and the same is written of it.
-fn back(config: Config, input: &[u8], first: &WriteOutcome) {
-    if first.reading.number != refusal::ACCEPTED {
-        return;
-    }
-    let ticket = ticket(first);
-    let described = || {
-        format!(
-            "{config:?} '{}' is written '{}'",
-            start(input),
-            start(ticket)
-        )
-    };
-    let (records, bytes) = (first.reading.records, first.reading.bytes);
-    let lent = || {
-        (
-            vec![1; WIDTH * records as usize],
-            vec![b'['; bytes as usize],
-        )
-    };
-    let expected = Reading {
-        number: refusal::ACCEPTED,
-        place: 0,
-        records,
-        bytes,
-    };
-    let (mut words, mut text) = lent();
-    let reading = qs::parse(config, ticket, &mut words, &mut text);
-    assert_eq!(reading, expected, "read back: {}", described());
-    let meant = tree(&first.reading.words, &first.reading.text);
-    assert!(
-        tree(&words, &text) == meant,
-        "not the tree: {}",
-        described()
-    );
-    let of_the_crate = serde_qs_reference::parse(ticket, config.depth as usize, config.form);
-    assert!(
-        of_the_crate == Ok(meant),
-        "not the crate's tree: {}",
-        described()
-    );
-    let ((mut words, mut text), mut out) = (lent(), vec![b'&'; ticket.len()]);
-    let again = qs::write(config, ticket, &mut words, &mut text, &mut out);
-    let length = first.length;
-    let reading = expected;
-    assert_eq!(
-        again,
-        Written { reading, length },
-        "written again: {}",
-        described()
-    );
-    assert!(
-        out == ticket,
-        "written again as '{}': {}",
-        start(&out),
-        described()
-    );
-}
-
-/// What is written of an accepted input; it is compared and read back too.
-fn written(config: Config, input: &[u8]) -> Vec<u8> {
-    let outcome = Counts::default().around(config, input);
-    assert_eq!(
-        outcome.reading.number,
-        refusal::ACCEPTED,
-        "{}",
-        start(input)
-    );
-    ticket(&outcome).to_vec()
-}
-
-/// Depths 0 to 3, with the form flag off and on.
+/// Depths 0 to 3, with the form flag off and on, and zeros in front of a number not counting and counting.
 fn configs() -> impl Iterator<Item = Config> {
-    (0..4).flat_map(|depth| [false, true].map(|form| Config { depth, form }))
+    let forms = |depth| [false, true].map(|form| crate_config(depth, form));
+    (0..4).flat_map(forms).flat_map(both_zeros)
 }
 
-/// At one depth, with both flags.
+/// At one depth, with all flags.
 fn every_short_input(depth: u32) {
     if !reference_is_there() {
         return;
     }
     let mut counts = Counts::default();
-    for form in [false, true] {
-        let config = Config { depth, form };
+    for config in configs().filter(|config| config.depth == depth) {
         every_string(BYTES, 3, |input| drop(counts.around(config, input)));
-        every_string(BYTES, 5, |input| counts.just(config, input));
+        let longest = if config.zeros { 4 } else { 5 };
+        every_string(BYTES, longest, |input| counts.just(config, input));
         every_string(b"%2536[]&=", 4, |input| counts.just(config, input));
     }
     let expected: &[u32] = match depth {
@@ -264,7 +41,7 @@ fn every_short_input(depth: u32) {
         _ => &[0, 4, 5, 6, 8, 9, 10, 11, 12, 13, 26],
     };
     counts.report(
-        &format!("every input of up to 5 bytes over 12 and 4 over 9, depth {depth}"),
+        &format!("every input of up to 5 bytes over 12, or 4 where zeros count, and 4 over 9, depth {depth}"),
         expected,
     );
 }
@@ -289,18 +66,6 @@ fn every_short_input_at_depth_3() {
     every_short_input(3);
 }
 
-/// Calls `check` on the concatenation of every list of at most `longest` pieces, with `between` between each two.
-fn every_list(pieces: &[&[u8]], longest: usize, between: &[u8], mut check: impl FnMut(&[u8])) {
-    let numbers: Vec<u8> = (0..pieces.len() as u8).collect();
-    every_string(&numbers, longest, |list| {
-        let parts: Vec<&[u8]> = list
-            .iter()
-            .map(|&piece| pieces[usize::from(piece)])
-            .collect();
-        check(&parts.join(between));
-    });
-}
-
 /// Inputs out of pieces that reach below the depth sooner than single bytes do.
 #[test]
 fn pieces() {
@@ -317,7 +82,7 @@ fn pieces() {
         });
     }
     counts.report(
-        "inputs out of pieces, at 8 settings",
+        "inputs out of pieces, at 16 settings",
         &[0, 4, 5, 6, 7, 8, 9, 10, 11, 12, 13, 26],
     );
 }
@@ -362,7 +127,10 @@ fn lists_of_pairs() {
             counts.just(config, input)
         });
     }
-    counts.report("lists of pairs, at 8 settings", &[0, 5, 6, 7, 8, 9, 10, 26]);
+    counts.report(
+        "lists of pairs, at 16 settings",
+        &[0, 5, 6, 7, 8, 9, 10, 26],
+    );
 }
 
 /// Keys and values of any bytes, raw and escaped, in a few places.
@@ -438,10 +206,10 @@ fn every_depth() {
     let mut counts = Counts::default();
     for depth in 0..=Config::MAX_DEPTH {
         for form in [false, true] {
-            let config = Config { depth, form };
             for turn in 0..times(100) {
                 let input = deep_query(&mut random, depth, 1 + turn % 8);
-                counts.around(config, &input);
+                let [off, on] = both_zeros(crate_config(depth, form));
+                counts.around(if turn % 2 == 0 { off } else { on }, &input);
             }
         }
     }
@@ -456,12 +224,10 @@ fn kinds() {
     }
     let mut counts = Counts::default();
     for Kind { depth, make, .. } in USUAL.iter().chain(&HARD) {
-        let config = Config {
-            depth: *depth,
-            form: false,
-        };
-        for length in [700, times(6_000).min(Config::MAX_LEN)] {
-            counts.just(config, &make(length));
+        for config in both_zeros(crate_config(*depth, false)) {
+            for length in [700, times(6_000).min(Config::MAX_LEN)] {
+                counts.just(config, &make(length));
+            }
         }
     }
     counts.report("every kind of long input", &[0, 26]);
@@ -474,7 +240,7 @@ fn every_small_buffer() {
     let words = [0, WIDTH - 1, WIDTH, 2 * WIDTH - 1, 2 * WIDTH, 4 * WIDTH];
     let outs = [0, 1, 2, 3, 4, 5, 9];
     for depth in [0, 5] {
-        let config = Config { depth, form: true };
+        let config = crate_config(depth, true);
         every_string(b"a0[]&=%", 3, |input| {
             for words in words {
                 for bytes in 0..4 {
@@ -575,7 +341,7 @@ fn a_short_output() {
 fn untouched_buffers() {
     let mut counts = Counts::default();
     let long = [b'&'; Config::MAX_LEN + 1];
-    let deep = |depth| Config { depth, form: false };
+    let deep = |depth| crate_config(depth, false);
     let (usual, above) = (Config::default(), Config::MAX_DEPTH + 1);
     let cases: [(Config, &[u8], usize, u32); 4] = [
         (deep(above), b"a=1", 8 * WIDTH, refusal::TOO_DEEP),
@@ -651,11 +417,8 @@ fn examples() {
     if !reference_is_there() {
         return;
     }
-    let at_depth = |depth| Config { depth, form: false };
-    let form_on = Config {
-        form: true,
-        ..Config::default()
-    };
+    let at_depth = |depth| crate_config(depth, false);
+    let form_on = crate_config(5, true);
     let usual = [
         ("b=2&a=1", "a=1&b=2"),
         ("b[y]=1&a=2&b[x]=3", "a=2&b[x]=3&b[y]=1"),
@@ -711,10 +474,7 @@ fn every_byte() {
     if !reference_is_there() {
         return;
     }
-    let config = Config {
-        depth: 1,
-        form: true,
-    };
+    let config = crate_config(1, true);
     for byte in 0..=255 {
         let plain = match byte {
             b' ' => b"+".to_vec(),
@@ -820,7 +580,7 @@ fn keys_at_the_depth() {
         return;
     }
     for depth in 1..=Config::MAX_DEPTH {
-        let config = Config { depth, form: false };
+        let config = crate_config(depth, false);
         let path = format!("a{}", "[b]".repeat(depth as usize));
         for (behind, ticket) in [
             ("", path.clone()),

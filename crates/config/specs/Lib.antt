@@ -1,2 +1,3 @@
 pub mod Defaults
 pub mod Limits
+pub mod Numbers

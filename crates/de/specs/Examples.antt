@@ -5,7 +5,7 @@ use Prim.Native.String.{String}
 use mathlib.Core.Path.{_≡_}
 use mathlib.Core.List.{List, [], _∷_, map}
 use Rattle.config.specs.declared.Config.{Config}
-use Rattle.config.specs.Defaults.{defaults}
+use Rattle.config.specs.Defaults.{defaults, zerosOn}
 use Rattle.ascii.specs.Texts.{ascii}
 use Rattle.reading.specs.declared.Reading.{Reading}
 use Rattle.reading.specs.Tests.{atDepth, records as wordsOf, before}
@@ -25,14 +25,18 @@ answer number place records bytes offset len =
     }
 
 pub record TextTest : Type 0 where
+  pub config : Config
   pub duplicates : DuplicateKeyBehavior
   pub input : String
   pub name : String
   pub expects : FieldRead
 
+abbrev pub textTestAt : Config → DuplicateKeyBehavior → String → String → FieldRead → TextTest
+textTestAt config duplicates input name expects =
+    record { config = config; duplicates = duplicates; input = input; name = name; expects = expects }
+
 abbrev pub textTest : DuplicateKeyBehavior → String → String → FieldRead → TextTest
-textTest duplicates input name expects =
-    record { duplicates = duplicates; input = input; name = name; expects = expects }
+textTest duplicates input name expects = textTestAt defaults duplicates input name expects
 
 abbrev pub textTests : List TextTest
 textTests =
@@ -43,6 +47,11 @@ textTests =
     -- an Int key is no String key
     textTest TakeLast "1=x" "1" (answer 17 0 2 1 0 0) ∷
     textTest TakeLast "%31=x" "1" (answer 0 0 2 2 1 1) ∷
+    -- one of digits with a needless zero is, with the key setting on
+    textTest TakeLast "07=x" "07" (answer 17 0 2 1 0 0) ∷
+    textTestAt zerosOn TakeLast "07=x" "07" (answer 0 0 2 3 2 1) ∷
+    textTestAt zerosOn TakeLast "07=x" "7" (answer 17 0 2 3 0 0) ∷
+    textTestAt zerosOn TakeLast "0=x" "0" (answer 17 0 2 1 0 0) ∷
     -- the name is not decoded
     textTest TakeLast "a=1" "%61" (answer 17 0 2 2 0 0) ∷
     -- another key that is no UTF-8
@@ -71,8 +80,9 @@ abbrev pub TextTestsPass : Type 0
 TextTestsPass =
     map
     (λ t.
-    (textRead defaults (t .duplicates) (ascii (t .input)) (ascii (t .name)) (before (wordsOf 6)) (before 12)) .answer)
-    textTests
+    let o =
+    textRead (t .config) (t .duplicates) (ascii (t .input)) (ascii (t .name)) (before (wordsOf 6)) (before 12) in
+    o .answer) textTests
     ≡ map (λ t. t .expects) textTests
 
 -- With the list's slice, of so many words.
@@ -84,16 +94,19 @@ pub record ListTest : Type 0 where
   pub size : ℕ
   pub expects : FieldRead × List ℕ
 
-abbrev pub listTest : DuplicateKeyBehavior → String → String → ℕ → FieldRead → List ℕ → ListTest
-listTest duplicates input name size expects list =
+abbrev pub listTestAt : Config → DuplicateKeyBehavior → String → String → ℕ → FieldRead → List ℕ → ListTest
+listTestAt config duplicates input name size expects list =
     record {
-      config = defaults;
+      config = config;
       duplicates = duplicates;
       input = input;
       name = name;
       size = size;
       expects = (expects, list);
     }
+
+abbrev pub listTest : DuplicateKeyBehavior → String → String → ℕ → FieldRead → List ℕ → ListTest
+listTest duplicates input name size expects list = listTestAt defaults duplicates input name size expects list
 
 abbrev pub listTests : List ListTest
 listTests =
@@ -118,14 +131,11 @@ listTests =
     listTest TakeLast "&" "b" 2 (answer 16 0 1 0 0 0) (0 ∷ 0 ∷ []) ∷
     -- the reading's refusals, and the slice untouched under 1 to 3
     listTest TakeLast "a[" "a" 2 (answer 4 3 0 0 0 0) (0 ∷ 0 ∷ []) ∷
-    record {
-      config = atDepth 65;
-      duplicates = TakeLast;
-      input = "a";
-      name = "a";
-      size = 2;
-      expects = (answer 1 0 0 0 0 0, before 2);
-    } ∷
+    listTestAt (atDepth 65) TakeLast "a" "a" 2 (answer 1 0 0 0 0 0) (before 2) ∷
+    -- an index with a needless zero, with the key setting off and on: then it is no Int, and the Map no list
+    listTest TakeLast "a[0]=x&a[01]=y" "a" 4 (answer 0 0 4 3 0 2) (1 ∷ 1 ∷ 2 ∷ 1 ∷ []) ∷
+    listTestAt zerosOn TakeLast "a[0]=x&a[01]=y" "a" 4 (answer 18 0 4 5 0 0) (0 ∷ 0 ∷ 0 ∷ 0 ∷ []) ∷
+    listTestAt zerosOn TakeLast "a[0]=x&a[1]=y" "a" 4 (answer 0 0 4 3 0 2) (1 ∷ 1 ∷ 2 ∷ 1 ∷ []) ∷
     []
 
 abbrev pub ListTestsPass : Type 0
@@ -180,6 +190,12 @@ fieldsTests =
     fieldsTest TakeLast "b=1&b=2" "b" (1 ∷ []) 3 (reads 0 0 4 3) (0 ∷ 2 ∷ 1 ∷ []) ∷
     fieldsTest TakeLast "a[b]=1" "a" (1 ∷ []) 3 (reads 0 0 3 3) (18 ∷ 0 ∷ 0 ∷ []) ∷
     fieldsTest TakeLast "&&" "a" (1 ∷ []) 3 (reads 0 0 1 0) (16 ∷ 0 ∷ 0 ∷ []) ∷
+    -- digits with needless zeros are names with the key setting on
+    record {
+      asked = ask zerosOn TakeLast "7=a&07=b&007=c" "007077" (3 ∷ 5 ∷ 6 ∷ []);
+      size = 9;
+      expects = (reads 0 0 4 8, 0 ∷ 7 ∷ 1 ∷ 0 ∷ 3 ∷ 1 ∷ 17 ∷ 0 ∷ 0 ∷ []);
+    } ∷
     -- an empty list reads the input
     unansweredTest defaults "a=1" "xyz" [] 2 (reads 0 0 2 2) ∷
     unansweredTest defaults "a[" "" [] 0 (reads 4 3 0 0) ∷

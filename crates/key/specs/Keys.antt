@@ -1,8 +1,9 @@
--- Document 01, 'A key': the keys, and the key of a segment that isn't empty.
+-- Document 01, 'A key', with the setting of document 02, R-5: the keys, and the key of a segment that isn't empty.
 use Prim.Native.Nat.{ℕ}
-use mathlib.Core.Bool.{Bool, cond, _&&_}
-use mathlib.Core.List.{List}
-use lib.Dec.{leb}
+use mathlib.Core.Bool.{Bool, false, cond, not, _&&_}
+use mathlib.Core.List.{List, [], _∷_}
+use lib.Dec.{eqb, leb}
+use Rattle.ascii.specs.Bytes.{zero}
 use Rattle.ascii.specs.Digits.{allDigits, valueFrom}
 use Rattle.config.specs.declared.Config.{Config}
 use Rattle.decode.specs.Decoding.{decoded}
@@ -16,9 +17,19 @@ pub data Key : Type 0 where
 abbrev pub maxInt : ℕ
 maxInt = 4294967295
 
--- "Raw digits only, with value at most 4,294,967,295, is Int." No setting bears on it so far.
+-- A zero in front that a number doesn't need: that of `00` and `07`, but not of `0`.
+abbrev pub needlessZero : List ℕ → Bool
+needlessZero [] = false
+needlessZero (b ∷ []) = false
+needlessZero (b ∷ c ∷ s) = eqb b zero
+
+-- Document 02, R-5: "a setting under which a digits key with a needless leading zero is a String".
+abbrev pub isPadded : Config → List ℕ → Bool
+isPadded config s = config .zeros && needlessZero s
+
+-- "Raw digits only, with value at most 4,294,967,295, is Int", and under that setting without such a zero.
 abbrev pub isInt : Config → List ℕ → Bool
-isInt config s = allDigits s && leb (valueFrom 0 s) maxInt
+isInt config s = allDigits s && leb (valueFrom 0 s) maxInt && not (isPadded config s)
 
 -- "Anything else is a String, decoded."
 abbrev pub keyOf : Config → List ℕ → Key

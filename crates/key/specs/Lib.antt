@@ -3,3 +3,4 @@ pub mod Examples
 pub mod Keys
 pub mod KeyOrder
 pub mod Leading
+pub mod Zeros

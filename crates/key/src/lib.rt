@@ -1,7 +1,8 @@
 // What key a raw segment is: the work of `collect_key` (the source's src/de/parse.rs) on the segment's bytes.
-// The rule is in specs/Keys and specs/Collected; specs/Leading is the one pass that tests for digits and sums them;
-// specs/KeyOrder is the order of keys, which the definitions and the store cite.
-// Below it stand the settings (config), whose record the rule takes, decoding (decode), digits (ascii) and laws.
+// The rule is in specs/Keys and specs/Collected, and specs/Zeros has what the key setting does to it; specs/Leading is
+// the one pass that tests for digits and sums them; specs/KeyOrder is the order of keys, which the definitions and the
+// store cite. Below it stand the settings (config), whose record the rule takes, decoding (decode), digits (ascii) and
+// laws.
 ghost use mathlib.Core.Path.{_≡_};
 ghost use mathlib.Core.List.{List};
 ghost use Prim.Native.Nat.{ℕ};
@@ -26,7 +27,8 @@ pub struct LeadingInt {
 const MAX_INT: u64 = 4294967295;
 
 // The longest Int that the bytes begin with. Each digit is tested and summed at once; the pass ends at the first byte
-// that is none, or whose digit would make the sum too large.
+// that is none, or whose digit would make the sum too large, or with `zeros` on a zero in front needless: digits whose
+// value is below their number start with one.
 pub fn leading_int(config: Config, bytes: &[u8]) -> LeadingInt
     ensures { λ r. ⌜ LongestInt config (now (bytes .entry)) r ⌝ }
 {
@@ -41,6 +43,12 @@ pub fn leading_int(config: Config, bytes: &[u8]) -> LeadingInt
             };
         }
         let sum = value * 10 + (b - b'0') as u64;
+        if config.zeros & (value < len as u64) {
+            return LeadingInt {
+                len,
+                value: value as u32,
+            };
+        }
         if MAX_INT < sum {
             return LeadingInt {
                 len,

@@ -96,5 +96,5 @@ enough first rest words text h =
     go : (head : Head) → Inside longestHead head → replyTo head (first ++ rest) words text ≡ replyTo head first words text
     go Bad i = refl
     go (Good depth form start) i =
-        ap listing (too-long (settings depth form) (drop start (first ++ rest)) (drop start first) words text
+        ap listing (too-long (settings depth form false) (drop start (first ++ rest)) (drop start first) words text
         (omega (arith, length-drop start (first ++ rest), length-append first rest)) (omega (arith, length-drop start first)))

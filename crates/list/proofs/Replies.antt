@@ -1,6 +1,6 @@
 -- What the program writes fits its output, and so is written whole.
 use mathlib.Core.Path.{_≡_, sym, ap, subst, _∙_}
-use mathlib.Core.Bool.{Bool}
+use mathlib.Core.Bool.{Bool, false}
 use mathlib.Core.List.{List, _++_}
 use Prim.Native.Nat.{ℕ, _-_, _^_, _≤_, _<_}
 use native.Mathlib.Omega.{arith}
@@ -94,7 +94,7 @@ module _ (input words text out out′ : List ℕ) {head : Head} {r : ℕ} (told 
   pub bad-reply : head ≡ Bad → WroteAll badHead out out′ r → WroteAll (reply input words text) out out′ r
   bad-reply e w = subst (λ h. WroteAll (replyTo h input words text) out out′ r) (sym e ∙ told) w
 
-  pub good-reply : {depth start : ℕ} {form : Bool} {config : Config} → head ≡ Good depth form start → config ≡ settings depth form
+  pub good-reply : {depth start : ℕ} {form : Bool} {config : Config} → head ≡ Good depth form start → config ≡ settings depth form false
       → WroteAll (listing (reading config (take (length input - start) (drop start input)) words text)) out out′ r
       → WroteAll (reply input words text) out out′ r
   good-reply {start = start} e f w =

@@ -1,5 +1,6 @@
 -- Document 01, 'The listing program': what it prints for its standard input.
 use Prim.Native.Nat.{ℕ}
+use mathlib.Core.Bool.{false}
 use mathlib.Core.List.{List}
 use lib.ListN.{drop}
 use Rattle.config.specs.Defaults.{settings}
@@ -10,11 +11,11 @@ use Rattle.head.specs.Heads.{headOf}
 use Rattle.listing.specs.Listing.{badHead, listing}
 
 -- "A bad head prints only `answer=head`." After a good one the rest is the query string (document 01's "ticket"), "to
--- end of file".
+-- end of file". Document 02, R-5, of the key setting: "the programs have it off".
 abbrev pub replyTo : Head → List ℕ → List ℕ → List ℕ → List ℕ
 replyTo Bad input words text = badHead
 replyTo (Good depth form start) input words text =
-    listing (reading (settings depth form) (drop start input) words text)
+    listing (reading (settings depth form false) (drop start input) words text)
 
 -- The words and the text are those that the program lends, as they were before.
 abbrev pub reply : List ℕ → List ℕ → List ℕ → List ℕ

@@ -60,7 +60,13 @@ fn respond(input: &[u8], words: &mut [u32], text: &mut [u8], out: &mut [u8]) -> 
     match head::parse_head(input) {
         Head::Bad => count(listing::list_bad_head(out)),
         Head::Good { depth, form, start } => {
-            respond_to(&input[start..], Config::with(depth, form), words, text, out)
+            respond_to(
+                &input[start..],
+                Config::with(depth, form, false),
+                words,
+                text,
+                out,
+            )
         }
     }
 }

@@ -4,6 +4,7 @@
 // Below it stand the reader (parse), field reads (de, fields), the sheet (print), the writer (write), decoding
 // (decode), the test for UTF-8 (utf8), the settings (config) and the answer's struct (reading).
 ghost use mathlib.Core.Path.{_≡_};
+ghost use Rattle.config.specs.Numbers.{ofNumbers};
 ghost use Rattle.decode.specs.Decoding.{answer, written};
 ghost use Rattle.utf8.specs.Test.{utf8};
 ghost use Rattle.reading.specs.Reading.{reading};
@@ -12,7 +13,7 @@ ghost use Rattle.de.specs.FieldsReads.{fieldsRead};
 ghost use Rattle.print.specs.Printing.{printing};
 ghost use Rattle.write.specs.Writing.{writing};
 ghost use Rattle.qs.specs.Numbers.{lengthOrNo, oneOrZero, OneForUtf8};
-ghost use Rattle.qs.specs.Arguments.{settings, behavior};
+ghost use Rattle.qs.specs.Arguments.{behavior};
 use config::Config;
 use de::FieldRead;
 use decode::Decoded;
@@ -42,13 +43,6 @@ pub extern "C" fn qs_utf8(bytes: &[u8]) -> i32
     if utf8::is_utf8(bytes) { 1 } else { 0 }
 }
 
-// The settings for a depth and a form flag, off (0) or on (anything else).
-fn settings(depth: u32, form: u32) -> Config
-    ensures { λ r. ⌜ r ≡ settings depth form ⌝ }
-{
-    Config::with(depth as usize, form != 0)
-}
-
 // What is made of several values where a text is asked for: 0 takes the last, anything else refuses them.
 fn behavior(duplicates: u32) -> DuplicateKeyBehavior
     ensures { λ r. ⌜ r ≡ behavior duplicates ⌝ }
@@ -60,20 +54,21 @@ fn behavior(duplicates: u32) -> DuplicateKeyBehavior
     }
 }
 
-// Reads `input` into lent `words`, eight a record, and `text`, at a depth and with the form flag off (0) or on
-// (anything else). Refusals 1 to 3 leave both slices unchanged, the later ones leave them zero.
+// Reads `input` into lent `words`, eight a record, and `text`, at a depth and with the form flag and the key setting
+// off (0) or on (anything else). Refusals 1 to 3 leave both slices unchanged, the later ones leave them zero.
 #[no_mangle]
 pub extern "C" fn qs_parse(
     depth: u32,
     form: u32,
+    zeros: u32,
     input: &[u8],
     words: &mut [u32],
     text: &mut [u8],
 ) -> Reading
     ensures { λ r. ⌜ record { answer = r; words = now (words .exit); text = now (text .exit) }
-        ≡ reading (settings depth form) (now (input .entry)) (now (words .entry)) (now (text .entry)) ⌝ }
+        ≡ reading (ofNumbers depth form zeros) (now (input .entry)) (now (words .entry)) (now (text .entry)) ⌝ }
 {
-    parse::parse(input, settings(depth, form), words, text).answer()
+    parse::parse(input, Config::of_numbers(depth, form, zeros), words, text).answer()
 }
 
 // Reads `input` as `qs_parse` does, and then the root's field of that name as a text: its offset and length in
@@ -82,6 +77,7 @@ pub extern "C" fn qs_parse(
 pub extern "C" fn qs_text(
     depth: u32,
     form: u32,
+    zeros: u32,
     duplicates: u32,
     input: &[u8],
     name: &[u8],
@@ -89,10 +85,10 @@ pub extern "C" fn qs_text(
     text: &mut [u8],
 ) -> FieldRead
     ensures { λ r. ⌜ record { answer = r; words = now (words .exit); text = now (text .exit) }
-        ≡ textRead (settings depth form) (behavior duplicates) (now (input .entry)) (now (name .entry))
+        ≡ textRead (ofNumbers depth form zeros) (behavior duplicates) (now (input .entry)) (now (name .entry))
         (now (words .entry)) (now (text .entry)) ⌝ }
 {
-    let config = settings(depth, form);
+    let config = Config::of_numbers(depth, form, zeros);
     let duplicates = behavior(duplicates);
     de::deserialize_str(input, name, config, duplicates, words, text)
 }
@@ -103,6 +99,7 @@ pub extern "C" fn qs_text(
 pub extern "C" fn qs_list(
     depth: u32,
     form: u32,
+    zeros: u32,
     duplicates: u32,
     input: &[u8],
     name: &[u8],
@@ -114,10 +111,10 @@ pub extern "C" fn qs_list(
       read = record { answer = r; words = now (words .exit); text = now (text .exit) };
       list = now (list .exit);
     }
-        ≡ listRead (settings depth form) (behavior duplicates) (now (input .entry)) (now (name .entry))
+        ≡ listRead (ofNumbers depth form zeros) (behavior duplicates) (now (input .entry)) (now (name .entry))
         (now (words .entry)) (now (text .entry)) (now (list .entry)) ⌝ }
 {
-    let config = settings(depth, form);
+    let config = Config::of_numbers(depth, form, zeros);
     let duplicates = behavior(duplicates);
     de::deserialize_seq(input, name, config, duplicates, words, text, list)
 }
@@ -129,6 +126,7 @@ pub extern "C" fn qs_list(
 pub extern "C" fn qs_fields(
     depth: u32,
     form: u32,
+    zeros: u32,
     duplicates: u32,
     input: &[u8],
     names: &[u8],
@@ -142,14 +140,14 @@ pub extern "C" fn qs_fields(
       answers = now (answers .exit);
     }
         ≡ fieldsRead (record {
-          config = settings depth form;
+          config = ofNumbers depth form zeros;
           duplicates = behavior duplicates;
           input = now (input .entry);
           names = now (names .entry);
           ends = now (ends .entry);
         }) (now (words .entry)) (now (text .entry)) (now (answers .entry)) ⌝ }
 {
-    let config = settings(depth, form);
+    let config = Config::of_numbers(depth, form, zeros);
     let duplicates = behavior(duplicates);
     de::deserialize_fields(input, names, ends, config, duplicates, words, text, answers)
 }
@@ -160,6 +158,7 @@ pub extern "C" fn qs_fields(
 pub extern "C" fn qs_sheet(
     depth: u32,
     form: u32,
+    zeros: u32,
     input: &[u8],
     words: &mut [u32],
     text: &mut [u8],
@@ -169,10 +168,16 @@ pub extern "C" fn qs_sheet(
       reading = record { answer = r; words = now (words .exit); text = now (text .exit) };
       page = now (page .exit);
     }
-        ≡ printing (settings depth form) (now (input .entry)) (now (words .entry)) (now (text .entry))
+        ≡ printing (ofNumbers depth form zeros) (now (input .entry)) (now (words .entry)) (now (text .entry))
         (now (page .entry)) ⌝ }
 {
-    print::print_sheet(input, settings(depth, form), words, text, page)
+    print::print_sheet(
+        input,
+        Config::of_numbers(depth, form, zeros),
+        words,
+        text,
+        page,
+    )
 }
 
 // Reads `input` as `qs_parse` does, and then writes an input that reads back as its tree into `out`, with the rest of
@@ -182,6 +187,7 @@ pub extern "C" fn qs_sheet(
 pub extern "C" fn qs_write(
     depth: u32,
     form: u32,
+    zeros: u32,
     input: &[u8],
     words: &mut [u32],
     text: &mut [u8],
@@ -193,8 +199,14 @@ pub extern "C" fn qs_write(
       text = now (text .exit);
       out = now (out .exit);
     }
-        ≡ writing (settings depth form) (now (input .entry)) (now (words .entry)) (now (text .entry))
+        ≡ writing (ofNumbers depth form zeros) (now (input .entry)) (now (words .entry)) (now (text .entry))
         (now (out .entry)) ⌝ }
 {
-    write::write(input, settings(depth, form), words, text, out)
+    write::write(
+        input,
+        Config::of_numbers(depth, form, zeros),
+        words,
+        text,
+        out,
+    )
 }

@@ -1,4 +1,4 @@
--- The tickets of document 01, decided by computing the definitions.
+-- The tickets of documents 01 and 02, decided by computing the definitions.
 use mathlib.Core.Path.{refl}
 use mathlib.Core.List.{flatten}
 use Rattle.decode.specs.Hex.{digitOf}
@@ -8,6 +8,7 @@ use Rattle.ascii.specs.Digits.{allDigits, valueFrom}
 use Rattle.reading.specs.Reading.{read}
 use Rattle.reading.specs.Starred.{StarredPass}
 use Rattle.reading.specs.Others.{OthersPass}
+use Rattle.reading.specs.Zeros.{ZerosPass}
 
 pub starred-pass : StarredPass
 unfolding read flatten decoded digitOf allDigits valueFrom percentDecode
@@ -16,3 +17,7 @@ starred-pass = (refl, refl)
 pub others-pass : OthersPass
 unfolding read flatten decoded digitOf allDigits valueFrom
 others-pass = refl
+
+pub zeros-pass : ZerosPass
+unfolding read flatten decoded digitOf allDigits valueFrom
+zeros-pass = refl

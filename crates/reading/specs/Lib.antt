@@ -29,3 +29,4 @@ pub mod Tests
 pub mod Starred
 pub mod Others
 pub mod Lost
+pub mod Zeros

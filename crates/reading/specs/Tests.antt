@@ -69,10 +69,10 @@ test config words bytes input expects =
 
 -- Settings other than the default.
 abbrev pub atDepth : ℕ → Config
-atDepth depth = settings depth false
+atDepth depth = settings depth false false
 
 abbrev pub formAtDepth : ℕ → Config
-formAtDepth depth = settings depth true
+formAtDepth depth = settings depth true false
 
 abbrev pub formOn : Config
 formOn = formAtDepth 5

@@ -49,9 +49,9 @@ pub(crate) fn case_of(front: &[u8; 36]) -> Case {
     }
 }
 
-// The settings of a case.
+// The settings of a case. The key setting, which the stored answers' source has not, is off.
 pub(crate) fn config_of(case: Case) -> Config {
-    Config::with(case.depth as usize, case.form == 1)
+    Config::with(case.depth as usize, case.form == 1, false)
 }
 
 // How many bytes hold a record: four a word.

@@ -1,19 +1,19 @@
 -- The keys of segments. None is empty; below the depth an Int is at most the greatest; and one at the depth is a String that starts with `[`, since its
 -- segment starts with a taking that yields `[`.
-use Prim.Native.Nat.{ℕ, _≤_}
+use Prim.Native.Nat.{ℕ}
 use mathlib.Core.Path.{_≡_, refl, sym, subst, _∙_}
 use mathlib.Core.Bool.{Bool, true, false, _&&_}
 use mathlib.Core.List.{List, [], _∷_, _++_}
-use borrow.Author.Tests.{leb-true, eqb-true}
-use lib.Dec.{eqb, leb}
+use borrow.Author.Tests.{eqb-true}
+use lib.Dec.{eqb}
 use Rattle.laws.proofs.Cases.{split, by-test, true-false, halves}
 use Rattle.ascii.specs.Bytes as byte
-use Rattle.ascii.specs.Digits.{allDigits, valueFrom}
+use Rattle.ascii.specs.Digits.{allDigits}
 use Rattle.config.specs.declared.Config.{Config}
 use Rattle.decode.specs.Hex.{digitOf}
 use Rattle.decode.specs.Decoding.{decoded}
-use Rattle.key.specs.Keys.{str, maxInt, isInt, keyOf}
-use Rattle.key.proofs.Digits.{int-digits}
+use Rattle.key.specs.Keys.{str, isInt, keyOf}
+use Rattle.key.proofs.Digits.{int-digits, int-small}
 use Rattle.reading.specs.Numbers.{NotEmpty}
 use Rattle.reading.specs.Leaves.{valueOf}
 use Rattle.reading.specs.Taking.{Symbol, ampersand, equals, opening, closing, other, Token, token, symbolOf, byteToken, Escape, escape, byEscape}
@@ -27,10 +27,6 @@ use Rattle.round_trip.proofs.KeptFit.{Named}
 pub value-fits : (keyless : Bool) (s : List ℕ) → ElementFits keyless (single (valueOf s))
 value-fits keyless [] = tt
 value-fits keyless (b ∷ s) = decoded-some b s
-
--- All that is used of Ints is this and that they are digits alone (`int-digits`).
-int-small : (config : Config) (s : List ℕ) → isInt config s ≡ true → valueFrom 0 s ≤ maxInt
-int-small config s e = leb-true (valueFrom 0 s) maxInt (halves (allDigits s) (leb (valueFrom 0 s) maxInt) e .1)
 
 named-string : (x : List ℕ) → NotEmpty x → Named (str x)
 named-string [] h = absurd h

@@ -14,8 +14,8 @@ use Rattle.ascii.proofs.Digits.{digit-is}
 use Rattle.config.specs.declared.Config.{Config}
 use Rattle.decode.specs.Hex.{digitOf, isHex, byteOf}
 use Rattle.decode.specs.Decoding.{plusToSpace, decoded}
-use Rattle.key.specs.Keys.{Key, int, str, maxInt, isInt, keyOf}
-use Rattle.key.proofs.Digits.{int-digits}
+use Rattle.key.specs.Keys.{Key, int, str, maxInt, needlessZero, isInt, keyOf}
+use Rattle.key.proofs.Digits.{int-digits, int-unpadded}
 use Rattle.reading.specs.Taking.{other, symbolOf, byteToken, neither, byteTokens, formTokens, tokens}
 use Rattle.reading.specs.Taking
 use Rattle.reading.specs.Numbers.{NotEmpty}
@@ -181,7 +181,7 @@ digits-escaped (b ∷ x) e =
     let p = written-digits (written b) (escaped x) e in rw (p .0) (ap (b ∷_) (digits-escaped x (p .1)))
 
 -- A segment whose first byte is no digit is no Int.
-not-int : (config : Config) (b : ℕ) (s : List ℕ) → isDigit b ≡ false → isInt config (b ∷ s) ≡ false
+pub not-int : (config : Config) (b : ℕ) (s : List ℕ) → isDigit b ≡ false → isInt config (b ∷ s) ≡ false
 not-int config b s e =
     split (isInt config (b ∷ s)) (λ f. true-false (sym (digits-first b s (int-digits config (b ∷ s) f) .0) ∙ e)) (λ f. f)
 
@@ -202,9 +202,20 @@ first-back config b x e =
     key-string config (Escaping.escape b ++ escaped x) (not-int config percent (hexDigit (b / 16) ∷ hexDigit (b % 16) ∷ escaped x) refl)
     ∙ ap str (decoded-escape b (escaped x) (omega (arith, d .1)) ∙ ap (b ∷_) (escaped-decoded x))
 
--- The decimal of an Int is one. This alone looks at what else an Int is.
+-- A decimal has no needless zero.
+first-counts : (s : List ℕ) → 48 < getD s 0 0 → needlessZero s ≡ false
+first-counts [] h = refl
+first-counts (b ∷ []) h = refl
+first-counts (b ∷ c ∷ s) h = ne-eqb b 48 (λ e. omega arith)
+
+decimal-unpadded : (a : ℕ) (s : List ℕ) → DecimalOf a s → needlessZero s ≡ false
+decimal-unpadded a s d = below 0 a (λ h. first-counts s (d .unpadded h)) (λ h. rw (d .ofZero (omega arith)))
+
+-- The decimal of an Int is one, whatever the settings. This alone looks at what else an Int is.
 decimal-int : (config : Config) (a : ℕ) → a ≤ maxInt → isInt config (decimal a) ≡ true
-decimal-int config a h = rw ((decimals a) .digits, (decimals a) .value, le-leb a maxInt h) refl
+decimal-int config a h =
+    let d = decimals a in
+    int-unpadded config (decimal a) (d .digits) (omega (arith, d .value)) (decimal-unpadded a (decimal a) d)
 
 -- What is written of a key reads as that key.
 pub key-back : (config : Config) (k : Key) → Readable k → keyOf config (escapedKey config k) ≡ k

@@ -5,7 +5,7 @@ use mathlib.Core.Path.{_≡_}
 use mathlib.Core.List.{List, [], _∷_, map}
 use Rattle.ascii.specs.Texts.{ascii}
 use Rattle.config.specs.declared.Config.{Config}
-use Rattle.config.specs.Defaults.{defaults}
+use Rattle.config.specs.Defaults.{defaults, zerosOn}
 use Rattle.reading.specs.Reading.{reading}
 use Rattle.reading.specs.Buffers.{treeIn}
 use Rattle.reading.specs.Tests.{records, before, atDepth, formOn}
@@ -61,6 +61,12 @@ examples =
     becomes "a[1%32]=1" "a[%312]=1" ∷
     becomes "4294967296=a" "4294967296=a" ∷
     becomes "007=a" "7=a" ∷
+    becomes "%3007=a" "%3007=a" ∷
+    -- R-5: "under the setting `007` as a String needs no escape"
+    becomesAt zerosOn "007=a&00=b" "00=b&007=a" ∷
+    becomesAt zerosOn "%3007=a&a[%300]=b" "007=a&a[00]=b" ∷
+    becomesAt zerosOn "7=a&%37=b&07=c" "7=a&07=c&%37=b" ∷
+    becomesAt zerosOn "0=a&a[%30]=b" "0=a&a[%30]=b" ∷
     -- "Other bytes are written raw."
     becomes "a/?~=%2F%7E" "a/?~=/~" ∷
     -- "An Uninitialized root is a lone '&'", and the other roots

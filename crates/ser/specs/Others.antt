@@ -9,6 +9,7 @@ use mathlib.Core.List.{List, [], _∷_, map}
 use lib.Dec.{eqb}
 use Rattle.ascii.specs.Texts.{ascii}
 use Rattle.config.specs.declared.Config.{Config}
+use Rattle.config.specs.Defaults.{zerosOn}
 use Rattle.key.specs.KeyOrder.{compareBytes}
 use Rattle.reading.specs.Reading.{Outcome, reading}
 use Rattle.reading.specs.Buffers.{treeIn}
@@ -37,6 +38,9 @@ others =
     becomes "a[b%5Dc]=1" "a[b]c]=1" ∷
     -- digits that are no Int; NoValue for Null; nothing at all for an Uninitialized root
     becomes "%31=a" "1=a" ∷
+    becomes "%3007=a" "007=a" ∷
+    becomesAt zerosOn "%37=a" "7=a" ∷
+    becomesAt zerosOn "a[%30]=b" "a[0]=b" ∷
     becomes "a=" "a" ∷
     becomes "&" "" ∷
     []

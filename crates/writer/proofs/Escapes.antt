@@ -4,8 +4,8 @@ use mathlib.Core.Bool.{Bool, true, false, cond, not}
 use mathlib.Core.List.{List, [], _∷_, _++_}
 use Prim.Native.Nat.{ℕ, _+_, _-_, _/_, _%_, _≤_, _<_}
 use native.Mathlib.Omega.{arith}
-use borrow.Author.Tests.{eq-eqb, ne-eqb}
-use lib.Dec.{eqb}
+use borrow.Author.Tests.{eq-eqb, ne-eqb, lt-leb}
+use lib.Dec.{eqb, leb}
 use lib.ListN.{length, take, drop, getD, drop-of-length-le}
 use lib.Seq.{take-length}
 use Rattle.laws.proofs.Cases.{below}
@@ -17,12 +17,14 @@ use Rattle.row.specs.Words.{word, textPart}
 use Rattle.key.specs.declared.LeadingInt.{LeadingInt}
 use Rattle.key.specs.Keys.{Key, int, str, isInt}
 use Rattle.key.specs.Leading.{LongestInt}
+use Rattle.key.proofs.Digits.{never}
 use Rattle.reading.specs.Values.{rowKey}
 use Rattle.reading.specs.Buffers.{rowIn}
 use Rattle.output.specs.Numbers.{hexDigit}
 use Rattle.output.specs.Output.{Page}
 use Rattle.ser.specs.Escaping.{isReserved, escape, escapedByte, escaped, escapedKey, escapedAtDepth}
 use Rattle.ser.specs.Writing.{isAtDepth, keyAt}
+use Rattle.ser.proofs.Reading.{not-int}
 use Rattle.writer.specs.Pages.{Puts}
 use Rattle.writer.specs.declared.walk.Part.{Part}
 use Rattle.writer.specs.declared.walk.Part.the-variants.{Named, Empty}
@@ -84,6 +86,11 @@ string-plain config s e t = let f : isInt config s ≡ false = sym e ∙ t in sy
 
 pub string-at-depth : (s : List ℕ) → (length s ≡ 0 → ⊥) → (getD s 0 0 ∷ []) ++ escaped (drop 1 s) ≡ escapedAtDepth (str s)
 string-at-depth s h = sym (rw (first s h))
+
+-- Bytes that start with one above the digits are no Int.
+pub letter-first : (config : Config) (s : List ℕ) → 0 < length s → 57 < getD s 0 0 → isInt config s ≡ false
+letter-first config [] h k = absurd (omega arith)
+letter-first config (b ∷ s) h k = not-int config b s (rw (lt-leb b 57 k) (never (leb 48 b)))
 
 -- The one pass over digits tells whether bytes are an Int.
 pub int-told : (config : Config) (s : List ℕ) (x : LeadingInt) → LongestInt config s x → eqb (x .len) (length s) ≡ isInt config s

@@ -1,5 +1,7 @@
 // A key's own part of what is written in front of a value.
 ghost use mathlib.Core.Path.{_≡_};
+ghost use Prim.Native.Nat.{_<_};
+ghost use lib.ListN.{length};
 ghost use Rattle.key.specs.Keys.{str, isInt};
 ghost use Rattle.output.specs.Output.{page};
 ghost use Rattle.ser.specs.Escaping.{escapedKey, escapedAtDepth};
@@ -38,10 +40,14 @@ pub(crate) fn is_at_depth(config: Config, level: usize) -> bool
     level - 2 == config.depth
 }
 
-// Whether bytes would read as an Int.
+// Whether bytes would read as an Int. Most keys start with a letter, which tells that they wouldn't.
 fn is_int(config: Config, bytes: &[u8]) -> bool
+    requires { ⌜ 0 < length (now bytes) ⌝ }
     ensures { λ r. ⌜ r ≡ isInt config (now (bytes .entry)) ⌝ }
 {
+    if b'9' < bytes[0] {
+        return false;
+    }
     let leading = key::leading_int(config, bytes);
     leading.len == bytes.len()
 }

@@ -11,11 +11,12 @@ use row::WIDTH;
 pub use ser::{write, written, WriteOutcome};
 pub use sheet::{sheet, SheetOutcome, SHEET_LINE};
 
-/// How a reading is set: `depth` is refused above [`MAX_DEPTH`].
+/// How a reading is set: `depth` is refused above [`MAX_DEPTH`], and `zeros` is document 02's.
 #[derive(Clone, Copy, Debug, PartialEq, Eq)]
 pub struct Config {
     pub depth: u32,
     pub form: bool,
+    pub zeros: bool,
 }
 
 /// What a reading answers, and what it leaves in the lent buffers.
@@ -173,9 +174,7 @@ impl Reader<'_> {
             return None;
         }
         let raw = &self.input[start..end];
-        let digits = raw.iter().all(u8::is_ascii_digit);
-        let int = if digits { value(raw) } else { None };
-        Some(match int {
+        Some(match int(self.config, raw) {
             Some(int) => Key::Int(int),
             None => Key::String(decode(raw)),
         })
@@ -491,6 +490,16 @@ impl Leaf {
             Leaf::String(bytes) => bytes.len(),
         }
     }
+}
+
+/// The Int that a raw segment is read as, unless it is a String. With zeros on, a needless zero in front makes it one.
+fn int(config: Config, raw: &[u8]) -> Option<u32> {
+    let needless = matches!(raw, [b'0', _, ..]);
+    let digits = raw.iter().all(u8::is_ascii_digit);
+    if !digits || config.zeros && needless {
+        return None;
+    }
+    value(raw)
 }
 
 /// The value of digits, if it is at most 4,294,967,295.

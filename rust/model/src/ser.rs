@@ -2,7 +2,7 @@
 //! from the root, and the pairs are sorted afterwards.
 
 use crate::row::WIDTH;
-use crate::{accept, Config, Key, Kind, Outcome, Reader, MAX_LEN};
+use crate::{accept, int, Config, Key, Kind, Outcome, Reader, MAX_LEN};
 
 /// What a writing answers, and what it leaves: `reading` has its number, and `out` what the output holds after it.
 #[derive(Clone, Debug, PartialEq, Eq)]
@@ -112,7 +112,10 @@ impl Reader<'_> {
                 [b'[', rest @ ..] if self.is_depth(level) => {
                     return [b"[", &escaped(rest)[..]].concat()
                 }
-                [digit, rest @ ..] if would_be_int(bytes) => [hex(*digit), escaped(rest)].concat(),
+                // as it is, it would be read as an Int
+                [digit, rest @ ..] if int(self.config, bytes).is_some() => {
+                    [hex(*digit), escaped(rest)].concat()
+                }
                 _ => escaped(bytes),
             },
         };
@@ -153,21 +156,6 @@ fn way(parents: &[Option<(usize, Turn)>], number: usize) -> (Vec<usize>, Vec<Tur
     way.reverse();
     turns.reverse();
     (way, turns)
-}
-
-/// Whether a key of these bytes would be read as an Int, were it written as it is.
-fn would_be_int(bytes: &[u8]) -> bool {
-    let Ok(text) = std::str::from_utf8(bytes) else {
-        return false;
-    };
-    let digits = !text.is_empty() && text.bytes().all(|byte| byte.is_ascii_digit());
-    // more than eighteen, without the zeros that lead, are above the greatest Int anyway
-    let short = text.trim_start_matches('0');
-    digits
-        && short.len() <= 18
-        && format!("0{short}")
-            .parse::<u64>()
-            .is_ok_and(|int| int <= u32::MAX.into())
 }
 
 fn escaped(bytes: &[u8]) -> Vec<u8> {

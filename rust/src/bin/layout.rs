@@ -11,6 +11,8 @@
 //!
 //! `layout --segment SEGMENT`: the text of a raw segment alone.
 //!
+//! `--zeros` in front of all but the last: zeros in front of a number count, so that `7`, `07` and `007` are three folders.
+//!
 //! A written ticket and a segment's text go to standard output byte for byte and with nothing added; only a terminal gets them with a
 //! newline at the end and with control characters spelled out.
 //!
@@ -28,24 +30,25 @@ use std::string::FromUtf8Error;
 const REFUSED: u8 = 1;
 const BAD_USAGE: u8 = 2;
 const USAGE: &str = "\
-usage: layout TICKET [NAME...]
-       layout --sheet TICKET
-       layout --write TICKET
+usage: layout [--zeros] TICKET [NAME...]
+       layout [--zeros] --sheet TICKET
+       layout [--zeros] --write TICKET
        layout --segment SEGMENT";
 
-/// What stands before a single argument.
-const OPTIONS: [&[u8]; 3] = [b"--segment", b"--sheet", b"--write"];
+/// What stands before a single argument, and before all others.
+const OPTIONS: [&[u8]; 4] = [b"--segment", b"--sheet", b"--write", b"--zeros"];
 
 fn main() -> ExitCode {
     let arguments = std::env::args_os().skip(1).map(OsString::into_vec);
     let arguments: Vec<Vec<u8>> = arguments.collect();
-    let done = match arguments.as_slice() {
-        [option, segment] if option == b"--segment" => show_segment(segment),
-        [option, input] if option == b"--sheet" => show_sheet(input),
-        [option, input] if option == b"--write" => show_written(input),
+    let (config, arguments) = settings(&arguments);
+    let done = match arguments {
+        [option, segment] if option == b"--segment" && !config.zeros => show_segment(segment),
+        [option, input] if option == b"--sheet" => show_sheet(config, input),
+        [option, input] if option == b"--write" => show_written(config, input),
         [option, ..] if OPTIONS.contains(&&option[..]) => return bad_usage(),
-        [input] => show_root(input),
-        [input, names @ ..] => show_fields(input, names),
+        [input] => show_root(config, input),
+        [input, names @ ..] => show_fields(config, input, names),
         [] => return bad_usage(),
     };
     if let Err(why) = done {
@@ -53,6 +56,18 @@ fn main() -> ExitCode {
         return ExitCode::from(REFUSED);
     }
     ExitCode::SUCCESS
+}
+
+/// How a ticket is read, and the arguments that are left.
+fn settings(arguments: &[Vec<u8>]) -> (Config, &[Vec<u8>]) {
+    let usual = Config::default();
+    match arguments {
+        [option, rest @ ..] if option == b"--zeros" => {
+            let zeros = true;
+            (Config { zeros, ..usual }, rest)
+        }
+        all => (usual, all),
+    }
 }
 
 fn bad_usage() -> ExitCode {
@@ -63,9 +78,9 @@ fn bad_usage() -> ExitCode {
 type Shown = Result<(), Box<dyn Error>>;
 
 /// What a ticket has at its root.
-fn show_root(input: &[u8]) -> Shown {
+fn show_root(config: Config, input: &[u8]) -> Shown {
     let (mut records, mut text) = qs::buffers(input.len());
-    let reading = qs::parse(Config::default(), input, &mut records, &mut text);
+    let reading = qs::parse(config, input, &mut records, &mut text);
     if reading.number != refusal::ACCEPTED {
         return Err(refused(input, reading.number, reading.place).into());
     }
@@ -118,9 +133,9 @@ fn value(record: &[u32], text: &[u8]) -> String {
 
 /// The fields, one after another. The ticket is read once for all of them, and again only for one that has several values or is a map.
 /// One that can't be read doesn't keep the others from being shown.
-fn show_fields(input: &[u8], names: &[Vec<u8>]) -> Shown {
+fn show_fields(config: Config, input: &[u8], names: &[Vec<u8>]) -> Shown {
     let (mut records, mut text) = qs::buffers(input.len());
-    let (config, duplicates) = (Config::default(), DuplicateKeyBehavior::Error);
+    let duplicates = DuplicateKeyBehavior::Error;
     let fields = qs::fields(config, duplicates, input, names, &mut records, &mut text)
         .map_err(|reading| refused(input, reading.number, reading.place))?;
     let mut out = io::stdout().lock();
@@ -128,7 +143,7 @@ fn show_fields(input: &[u8], names: &[Vec<u8>]) -> Shown {
     for (name, field) in names.iter().zip(fields) {
         let lines = match field {
             Ok(text) => Ok(line(&quoted(name), text)),
-            Err(refusal::SEVERAL_VALUES | refusal::WRONG_KIND) => lines_of(input, name),
+            Err(refusal::SEVERAL_VALUES | refusal::WRONG_KIND) => lines_of(config, input, name),
             Err(number) => Err(number),
         };
         match lines {
@@ -149,10 +164,10 @@ fn line(name: &str, text: &[u8]) -> String {
 }
 
 /// The lines of a field that has several values or is a map, in an accepted ticket; or the number that says why it has none.
-fn lines_of(input: &[u8], name: &[u8]) -> Result<String, u32> {
+fn lines_of(config: Config, input: &[u8], name: &[u8]) -> Result<String, u32> {
     let (mut records, mut text) = qs::buffers(input.len());
     let mut list = vec![0; 2 * (input.len() + 1)];
-    let (config, duplicates) = (Config::default(), DuplicateKeyBehavior::TakeLast);
+    let duplicates = DuplicateKeyBehavior::TakeLast;
     let one = qs::text(config, duplicates, input, name, &mut records, &mut text);
     let all = qs::list(
         config,
@@ -220,10 +235,10 @@ fn refused(input: &[u8], number: u32, place: u32) -> String {
 }
 
 /// The sheet of a ticket.
-fn show_sheet(input: &[u8]) -> Shown {
+fn show_sheet(config: Config, input: &[u8]) -> Shown {
     let (mut records, mut text) = qs::buffers(input.len());
     let mut page = vec![0; qs::sheet_room(input.len())];
-    let reading = qs::sheet(Config::default(), input, &mut records, &mut text, &mut page);
+    let reading = qs::sheet(config, input, &mut records, &mut text, &mut page);
     if reading.number != refusal::ACCEPTED {
         return Err(refused(input, reading.number, reading.place).into());
     }
@@ -235,10 +250,9 @@ fn show_sheet(input: &[u8]) -> Shown {
 }
 
 /// A ticket as it is written.
-fn show_written(input: &[u8]) -> Shown {
+fn show_written(config: Config, input: &[u8]) -> Shown {
     let (mut records, mut text) = qs::buffers(input.len());
     let mut ticket = vec![0; qs::write_room(input.len())];
-    let config = Config::default();
     let written = qs::write(config, input, &mut records, &mut text, &mut ticket);
     let reading = written.reading;
     if reading.number != refusal::ACCEPTED {

@@ -89,37 +89,37 @@ static void parse(void) {
     static const uint32_t records[2][QS_RECORD_WORDS] = {{1, 0, 0, 0, 0, 0, 1, 0}, {3, 2, 0, 1, 1, 1, 0, 0}};
     struct qs_reading reading;
     fill();
-    reading = qs_parse(5, 0, SLICE("a=1"), LENT);
+    reading = qs_parse(5, 0, 0, SLICE("a=1"), LENT);
     CHECK(reading.number == 0 && reading.place == 0 && reading.records == 2 && reading.bytes == 2);
     CHECK(memcmp(words, records, sizeof records) == 0);
     CHECK(all(words + 2 * QS_RECORD_WORDS, sizeof words - sizeof records, 0));
     CHECK(memcmp(text, "a1", 2) == 0 && all(text + 2, sizeof text - 2, 0));
     fill();
-    reading = qs_parse(5, 1, SLICE("a%5B"), LENT);
+    reading = qs_parse(5, 1, 0, SLICE("a%5B"), LENT);
     CHECK(reading.number == 4 && reading.place == 5 && reading.records == 0 && reading.bytes == 0);
     CHECK(all(words, sizeof words, 0) && all(text, sizeof text, 0));
     fill();
-    reading = qs_parse(QS_MAX_DEPTH + 1, 0, SLICE("a"), LENT);
+    reading = qs_parse(QS_MAX_DEPTH + 1, 0, 0, SLICE("a"), LENT);
     CHECK(reading.number == 1 && all(words, sizeof words, 7) && all(text, sizeof text, 7));
-    reading = qs_parse(5, 0, SLICE("a"), words, QS_RECORD_WORDS - 1, text, sizeof text);
+    reading = qs_parse(5, 0, 0, SLICE("a"), words, QS_RECORD_WORDS - 1, text, sizeof text);
     CHECK(reading.number == 3 && all(words, sizeof words, 7) && all(text, sizeof text, 7));
 }
 
 static void read_text(void) {
     struct qs_field_read read;
     fill();
-    read = qs_text(5, 0, 0, SLICE("w=fog&w=dew"), SLICE("w"), LENT);
+    read = qs_text(5, 0, 0, 0, SLICE("w=fog&w=dew"), SLICE("w"), LENT);
     CHECK(read.number == 0 && read.place == 0 && read.records == 4 && read.bytes == 7);
     CHECK(read.offset == 4 && read.length == 3 && memcmp(text, "wfogdew", 8) == 0);
-    read = qs_text(5, 0, 1, SLICE("w=fog&w=dew"), SLICE("w"), LENT);
+    read = qs_text(5, 0, 0, 1, SLICE("w=fog&w=dew"), SLICE("w"), LENT);
     CHECK(read.number == 19 && read.records == 4 && read.bytes == 7 && read.offset == 0 && read.length == 0);
-    read = qs_text(5, 0, UINT32_MAX, SLICE("w=fog&w=dew"), SLICE("w"), LENT);
+    read = qs_text(5, 0, 0, UINT32_MAX, SLICE("w=fog&w=dew"), SLICE("w"), LENT);
     CHECK(read.number == 19);
-    read = qs_text(5, 0, 0, SLICE("1=x"), SLICE("1"), LENT);
+    read = qs_text(5, 0, 0, 0, SLICE("1=x"), SLICE("1"), LENT);
     CHECK(read.number == 17 && read.place == 0 && read.records == 2 && read.bytes == 1);
-    read = qs_text(5, 0, 0, SLICE("=x"), NULL, 0, LENT);
+    read = qs_text(5, 0, 0, 0, SLICE("=x"), NULL, 0, LENT);
     CHECK(read.number == 0 && read.offset == 0 && read.length == 1);
-    read = qs_text(5, 0, 0, SLICE("a["), SLICE("a"), LENT);
+    read = qs_text(5, 0, 0, 0, SLICE("a["), SLICE("a"), LENT);
     CHECK(read.number == 4 && read.place == 3 && read.records == 0 && read.bytes == 0);
 }
 
@@ -127,17 +127,17 @@ static void read_list(void) {
     static const uint32_t parts[6] = {1, 2, 3, 1, 0, 0};
     struct qs_field_read read;
     fill();
-    read = qs_list(5, 0, 0, SLICE("h[]=10&h[]=9"), SLICE("h"), LENT, list, COUNT(list));
+    read = qs_list(5, 0, 0, 0, SLICE("h[]=10&h[]=9"), SLICE("h"), LENT, list, COUNT(list));
     CHECK(read.number == 0 && read.records == 4 && read.bytes == 4 && read.offset == 0 && read.length == 2);
     CHECK(memcmp(list, parts, sizeof parts) == 0 && memcmp(text, "h109", 5) == 0);
     fill();
-    read = qs_list(5, 0, 0, SLICE("h[]=10&h[]=9"), SLICE("h"), LENT, list, 3);
+    read = qs_list(5, 0, 0, 0, SLICE("h[]=10&h[]=9"), SLICE("h"), LENT, list, 3);
     CHECK(read.number == 22 && read.records == 4 && read.bytes == 4 && read.length == 0);
     CHECK(all(list, 3 * sizeof *list, 0) && all(list + 3, 3 * sizeof *list, 7));
     fill();
-    read = qs_list(QS_MAX_DEPTH + 1, 0, 0, SLICE("h"), SLICE("h"), LENT, list, COUNT(list));
+    read = qs_list(QS_MAX_DEPTH + 1, 0, 0, 0, SLICE("h"), SLICE("h"), LENT, list, COUNT(list));
     CHECK(read.number == 1 && all(list, sizeof list, 7));
-    read = qs_list(5, 0, 2, SLICE("h[0]=1&h[0]=2"), SLICE("h"), LENT, list, COUNT(list));
+    read = qs_list(5, 0, 0, 2, SLICE("h[0]=1&h[0]=2"), SLICE("h"), LENT, list, COUNT(list));
     CHECK(read.number == 19 && read.length == 0 && all(list, sizeof list, 0));
 }
 
@@ -153,20 +153,20 @@ static void read_fields(void) {
     static const uint32_t several[3 * QS_ANSWER_WORDS] = {19, 0, 0, 17, 0, 0, 19, 0, 0};
     struct qs_reading reading;
     fill();
-    reading = qs_fields(5, 0, 0, SLICE("w=fog&w=dew"), NAMES, ends, COUNT(ends), LENT, ANSWERS(COUNT(answers)));
+    reading = qs_fields(5, 0, 0, 0, SLICE("w=fog&w=dew"), NAMES, ends, COUNT(ends), LENT, ANSWERS(COUNT(answers)));
     CHECK(reading.number == 0 && reading.place == 0 && reading.records == 4 && reading.bytes == 7);
     CHECK(memcmp(answers, last, sizeof last) == 0 && all(answers + COUNT(last), sizeof answers - sizeof last, 7));
     CHECK(words[0] == 1 && memcmp(text, "wfogdew", 7) == 0 && all(text + 7, sizeof text - 7, 0));
-    reading = qs_fields(5, 0, UINT32_MAX, SLICE("w=fog&w=dew"), NAMES, ends, COUNT(ends), LENT, ANSWERS(COUNT(several)));
+    reading = qs_fields(5, 0, 0, UINT32_MAX, SLICE("w=fog&w=dew"), NAMES, ends, COUNT(ends), LENT, ANSWERS(COUNT(several)));
     CHECK(reading.number == 0 && reading.records == 4 && memcmp(answers, several, sizeof several) == 0);
     fill();
-    reading = qs_fields(5, 1, 0, SLICE("a%5B"), NAMES, ends, COUNT(ends), LENT, ANSWERS(COUNT(answers)));
+    reading = qs_fields(5, 1, 0, 0, SLICE("a%5B"), NAMES, ends, COUNT(ends), LENT, ANSWERS(COUNT(answers)));
     CHECK(reading.number == 4 && reading.place == 5 && reading.records == 0 && reading.bytes == 0);
     CHECK(all(words, sizeof words, 0) && all(text, sizeof text, 0) && all(answers, sizeof answers, 7));
-    reading = qs_fields(5, 0, 0, SLICE("w=fog"), NULL, 0, NULL, 0, LENT, NULL, 0);
+    reading = qs_fields(5, 0, 0, 0, SLICE("w=fog"), NULL, 0, NULL, 0, LENT, NULL, 0);
     CHECK(reading.number == 0 && reading.place == 0 && reading.records == 2 && reading.bytes == 4);
     CHECK(words[0] == 1 && memcmp(text, "wfog", 4) == 0);
-    reading = qs_fields(5, 0, 0, NULL, 0, NULL, 0, NULL, 0, words, COUNT(words), NULL, 0, NULL, 0);
+    reading = qs_fields(5, 0, 0, 0, NULL, 0, NULL, 0, NULL, 0, words, COUNT(words), NULL, 0, NULL, 0);
     CHECK(reading.number == 0 && reading.records == 1 && reading.bytes == 0 && words[0] == 5);
 }
 
@@ -175,13 +175,13 @@ static void refused_names(void) {
     static const uint32_t ends[3] = {1, 7, 8}, falling[3] = {1, 8, 7}, passing[3] = {1, 7, 9};
     struct qs_reading reading;
     fill();
-    reading = qs_fields(QS_MAX_DEPTH + 1, 0, 0, SLICE("w["), NAMES, falling, COUNT(falling), LENT, ANSWERS(0));
+    reading = qs_fields(QS_MAX_DEPTH + 1, 0, 0, 0, SLICE("w["), NAMES, falling, COUNT(falling), LENT, ANSWERS(0));
     CHECK(reading.number == 24 && reading.place == 0 && reading.records == 0 && reading.bytes == 0);
-    reading = qs_fields(5, 0, 0, SLICE("w=fog"), NAMES, passing, COUNT(passing), LENT, ANSWERS(COUNT(answers)));
+    reading = qs_fields(5, 0, 0, 0, SLICE("w=fog"), NAMES, passing, COUNT(passing), LENT, ANSWERS(COUNT(answers)));
     CHECK(reading.number == 24 && reading.place == 0 && reading.records == 0 && reading.bytes == 0);
-    reading = qs_fields(QS_MAX_DEPTH + 1, 0, 0, SLICE("w["), NAMES, ends, COUNT(ends), LENT, ANSWERS(3 * QS_ANSWER_WORDS - 1));
+    reading = qs_fields(QS_MAX_DEPTH + 1, 0, 0, 0, SLICE("w["), NAMES, ends, COUNT(ends), LENT, ANSWERS(3 * QS_ANSWER_WORDS - 1));
     CHECK(reading.number == 25 && reading.place == 0 && reading.records == 0 && reading.bytes == 0);
-    reading = qs_fields(QS_MAX_DEPTH + 1, 0, 0, SLICE("w["), NAMES, ends, COUNT(ends), LENT, ANSWERS(3 * QS_ANSWER_WORDS));
+    reading = qs_fields(QS_MAX_DEPTH + 1, 0, 0, 0, SLICE("w["), NAMES, ends, COUNT(ends), LENT, ANSWERS(3 * QS_ANSWER_WORDS));
     CHECK(reading.number == 1 && reading.place == 0 && reading.records == 0 && reading.bytes == 0);
     CHECK(all(words, sizeof words, 7) && all(text, sizeof text, 7) && all(answers, sizeof answers, 7));
 }
@@ -192,23 +192,23 @@ static void sheet(void) {
     struct qs_reading reading;
     snprintf(lines, sizeof lines, "%-72s\n%-72s\n", "  0       map", "  1     1 stri a                         1");
     fill();
-    reading = qs_sheet(5, 0, SLICE("a=1"), LENT, page, sizeof page);
+    reading = qs_sheet(5, 0, 0, SLICE("a=1"), LENT, page, sizeof page);
     CHECK(reading.number == 0 && reading.place == 0 && reading.records == 2 && reading.bytes == 2);
     CHECK(memcmp(page, lines, two_lines) == 0 && all(page + two_lines, sizeof page - two_lines, 7));
     CHECK(memcmp(text, "a1", 2) == 0 && all(text + 2, sizeof text - 2, 0));
     fill();
-    reading = qs_sheet(5, 0, SLICE("a=1"), LENT, page, two_lines - 1);
+    reading = qs_sheet(5, 0, 0, SLICE("a=1"), LENT, page, two_lines - 1);
     CHECK(reading.number == 23 && reading.place == 0 && reading.records == 2 && reading.bytes == 2);
     CHECK(words[0] == 1 && words[QS_RECORD_WORDS] == 3 && memcmp(text, "a1", 2) == 0 && all(page, sizeof page, 7));
-    reading = qs_sheet(5, 0, NULL, 0, words, COUNT(words), NULL, 0, NULL, 0);
+    reading = qs_sheet(5, 0, 0, NULL, 0, words, COUNT(words), NULL, 0, NULL, 0);
     CHECK(reading.number == 23 && reading.place == 0 && reading.records == 1 && reading.bytes == 0);
-    reading = qs_sheet(5, 0, NULL, 0, words, COUNT(words), NULL, 0, page, QS_SHEET_LINE);
+    reading = qs_sheet(5, 0, 0, NULL, 0, words, COUNT(words), NULL, 0, page, QS_SHEET_LINE);
     snprintf(lines, sizeof lines, "%-72s\n", "  0       nova");
     CHECK(reading.number == 0 && reading.records == 1 && memcmp(page, lines, QS_SHEET_LINE) == 0);
     fill();
-    reading = qs_sheet(5, 1, SLICE("a%5B"), LENT, page, sizeof page);
+    reading = qs_sheet(5, 1, 0, SLICE("a%5B"), LENT, page, sizeof page);
     CHECK(reading.number == 4 && reading.place == 5 && reading.records == 0 && all(page, sizeof page, 7));
-    reading = qs_sheet(QS_MAX_DEPTH + 1, 0, SLICE("a"), LENT, NULL, 0);
+    reading = qs_sheet(QS_MAX_DEPTH + 1, 0, 0, SLICE("a"), LENT, NULL, 0);
     CHECK(reading.number == 1 && reading.place == 0 && reading.records == 0 && reading.bytes == 0);
 }
 
@@ -218,34 +218,59 @@ static void write_ticket(void) {
     struct qs_written written;
     size_t i;
     fill();
-    written = qs_write(5, 0, SLICE("b=%2B&a=1&a="), LENT, out, sizeof out);
+    written = qs_write(5, 0, 0, SLICE("b=%2B&a=1&a="), LENT, out, sizeof out);
     CHECK(written.number == 0 && written.place == 0 && written.records == 5 && written.bytes == 4 && written.length == 16);
     CHECK(memcmp(out, "a[]=1&a[]=&b=%2b", 16) == 0 && all(out + 16, sizeof out - 16, 7));
     CHECK(words[0] == 1 && memcmp(text, "b+a1", 4) == 0 && all(text + 4, sizeof text - 4, 0));
     fill();
-    written = qs_write(5, 0, SLICE("b=%2B&a=1&a="), LENT, out, 15);
+    written = qs_write(5, 0, 0, SLICE("b=%2B&a=1&a="), LENT, out, 15);
     CHECK(written.number == 26 && written.place == 0 && written.records == 5 && written.bytes == 4 && written.length == 0);
     CHECK(words[0] == 1 && memcmp(text, "b+a1", 4) == 0 && all(text + 4, sizeof text - 4, 0) && all(out, sizeof out, 7));
     for (i = 0; i < COUNT(flags); i++) {
         fill();
-        written = qs_write(5, flags[i], SLICE("a%5B%5D="), LENT, out, sizeof out);
+        written = qs_write(5, flags[i], 0, SLICE("a%5B%5D="), LENT, out, sizeof out);
         CHECK(written.number == 0 && written.records == 3 && written.length == 4 && memcmp(out, "a[]=\x07", 5) == 0);
     }
-    written = qs_write(5, 0, SLICE("a%5B%5D="), LENT, out, sizeof out);
+    written = qs_write(5, 0, 0, SLICE("a%5B%5D="), LENT, out, sizeof out);
     CHECK(written.number == 0 && written.records == 2 && written.length == 8 && memcmp(out, "a%5b%5d=\x07", 9) == 0);
-    written = qs_write(5, 0, NULL, 0, words, COUNT(words), NULL, 0, NULL, 0);
+    written = qs_write(5, 0, 0, NULL, 0, words, COUNT(words), NULL, 0, NULL, 0);
     CHECK(written.number == 0 && written.place == 0 && written.records == 1 && written.bytes == 0 && written.length == 0);
     CHECK(words[0] == 5);
-    written = qs_write(5, 0, SLICE("&"), words, COUNT(words), NULL, 0, NULL, 0);
+    written = qs_write(5, 0, 0, SLICE("&"), words, COUNT(words), NULL, 0, NULL, 0);
     CHECK(written.number == 26 && written.place == 0 && written.records == 1 && written.bytes == 0 && written.length == 0);
     fill();
-    written = qs_write(5, 1, SLICE("a%5B"), LENT, out, sizeof out);
+    written = qs_write(5, 1, 0, SLICE("a%5B"), LENT, out, sizeof out);
     CHECK(written.number == 4 && written.place == 5 && written.records == 0 && written.bytes == 0 && written.length == 0);
     CHECK(all(words, sizeof words, 0) && all(text, sizeof text, 0) && all(out, sizeof out, 7));
     fill();
-    written = qs_write(QS_MAX_DEPTH + 1, 0, SLICE("a"), LENT, out, sizeof out);
+    written = qs_write(QS_MAX_DEPTH + 1, 0, 0, SLICE("a"), LENT, out, sizeof out);
     CHECK(written.number == 1 && written.place == 0 && written.records == 0 && written.length == 0);
     CHECK(all(words, sizeof words, 7) && all(text, sizeof text, 7) && all(out, sizeof out, 7));
+}
+
+/* Where zeros isn't 0, whatever it is, the `07` of each reading is a name. */
+static void zeros(void) {
+    static const uint32_t flags[4] = {0, 1, 256, UINT32_MAX}, ends[1] = {2};
+    size_t i;
+    for (i = 0; i < COUNT(flags); i++) {
+        const uint32_t on = flags[i] != 0, bytes = on ? 3 : 1, number = on ? 0 : 17;
+        struct qs_reading reading;
+        struct qs_field_read read;
+        struct qs_written written;
+        reading = qs_parse(5, 0, flags[i], SLICE("07=x"), LENT);
+        CHECK(reading.number == 0 && reading.records == 2 && reading.bytes == bytes);
+        CHECK(words[QS_RECORD_WORDS + 1] == 1 + on && words[QS_RECORD_WORDS + 2] == (on ? 0 : 7));
+        read = qs_text(5, 0, flags[i], 0, SLICE("07=x"), SLICE("07"), LENT);
+        CHECK(read.number == number && read.bytes == bytes && read.offset == 2 * on && read.length == on);
+        read = qs_list(5, 0, flags[i], 0, SLICE("07=x"), SLICE("07"), LENT, list, COUNT(list));
+        CHECK(read.number == number && read.bytes == bytes && list[0] == 2 * on && read.length == on);
+        reading = qs_fields(5, 0, flags[i], 0, SLICE("07=x"), SLICE("07"), ends, COUNT(ends), LENT, ANSWERS(3));
+        CHECK(reading.number == 0 && reading.bytes == bytes && answers[0] == number && answers[2] == on);
+        reading = qs_sheet(5, 0, flags[i], SLICE("07=x"), LENT, page, sizeof page);
+        CHECK(reading.number == 0 && memcmp(page + QS_SHEET_LINE + 15, on ? "07 " : "7  ", 3) == 0);
+        written = qs_write(5, 0, flags[i], SLICE("07=x"), LENT, out, sizeof out);
+        CHECK(written.number == 0 && written.length == 3 + on && memcmp(out, on ? "07=x" : "7=x", 3 + on) == 0);
+    }
 }
 
 int main(void) {
@@ -259,6 +284,7 @@ int main(void) {
     refused_names();
     sheet();
     write_ticket();
+    zeros();
     printf("%d checks, %d failed\n", checks, failures);
     return failures > 0;
 }

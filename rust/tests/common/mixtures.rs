@@ -9,7 +9,7 @@ use super::Random;
 pub type Shape = fn(usize) -> Vec<u8>;
 
 /// Shapes of keys. But for the last they have a key of its own for each number below 4,000.
-pub const SHAPES: [(&str, Shape); 18] = [
+pub const SHAPES: [(&str, Shape); 19] = [
     ("five digits", |i| format!("k{i:05}").into_bytes()),
     ("no leading zeros", |i| format!("key{i}").into_bytes()),
     ("two bytes", two_bytes),
@@ -26,6 +26,10 @@ pub const SHAPES: [(&str, Shape); 18] = [
     // from 1,953 on they are above the greatest Int, and Strings
     ("Ints far apart", |i| {
         (i * 2_200_013).to_string().into_bytes()
+    }),
+    // where zeros in front count, two out of three are Strings
+    ("Ints with zeros in front", |i| {
+        format!("{}{i}", "0".repeat(i % 3)).into_bytes()
     }),
     ("Ints and Strings", ints_and_strings),
     ("high bytes", high_bytes),

@@ -8,6 +8,7 @@ pub mod orders;
 pub mod programs;
 pub mod rows;
 pub mod whatwg;
+pub mod writes;
 
 use qs::{refusal, row};
 use std::io::Write;
@@ -87,6 +88,18 @@ pub fn every_string(alphabet: &[u8], longest: usize, mut check: impl FnMut(&[u8]
     }
 }
 
+/// Calls `check` on the concatenation of every list of at most `longest` pieces, with `between` between each two.
+pub fn every_list(pieces: &[&[u8]], longest: usize, between: &[u8], mut check: impl FnMut(&[u8])) {
+    let numbers: Vec<u8> = (0..pieces.len() as u8).collect();
+    every_string(&numbers, longest, |list| {
+        let parts: Vec<&[u8]> = list
+            .iter()
+            .map(|&piece| pieces[usize::from(piece)])
+            .collect();
+        check(&parts.join(between));
+    });
+}
+
 /// Whether more is asked for than the gate compares, by `COMPARE=whole` in the environment.
 pub fn whole() -> bool {
     std::env::var("COMPARE").as_deref() == Ok("whole")
@@ -162,11 +175,32 @@ fn key_at(words: &[u32], text: &[u8], number: u32) -> serde_qs_reference::Key {
     }
 }
 
+/// Settings that the crate has too: zeros in front of a number don't count.
+pub const fn crate_config(depth: u32, form: bool) -> qs::Config {
+    let zeros = false;
+    qs::Config { depth, form, zeros }
+}
+
+/// The settings with zeros in front of a number not counting, as the crate has it, and counting.
+pub fn both_zeros(config: qs::Config) -> [qs::Config; 2] {
+    [false, true].map(|zeros| qs::Config { zeros, ..config })
+}
+
 /// Any of some settings, shallow ones and the deepest.
 pub fn random_config(random: &mut Random) -> qs::Config {
     qs::Config {
         depth: [0, 1, 2, 3, 5, qs::Config::MAX_DEPTH][random.below(6)],
         form: random.below(2) == 1,
+        zeros: random.below(2) == 1,
+    }
+}
+
+/// Any of those that the crate has too.
+pub fn random_crate_config(random: &mut Random) -> qs::Config {
+    let zeros = false;
+    qs::Config {
+        zeros,
+        ..random_config(random)
     }
 }
 
@@ -176,6 +210,7 @@ pub fn any_config(random: &mut Random) -> qs::Config {
     qs::Config {
         depth: random.below(deepest as usize + 1) as u32,
         form: random.below(2) == 1,
+        zeros: random.below(2) == 1,
     }
 }
 
@@ -187,8 +222,8 @@ pub fn random_duplicates(random: &mut Random) -> qs::DuplicateKeyBehavior {
 
 /// Settings for the model.
 pub fn settings(config: qs::Config) -> model::Config {
-    let qs::Config { depth, form } = config;
-    model::Config { depth, form }
+    let qs::Config { depth, form, zeros } = config;
+    model::Config { depth, form, zeros }
 }
 
 /// What a reading of the library answered and left, as the model has it.

@@ -1,11 +1,11 @@
--- C's depth and flag are made the settings of the definitions, and the reading is at these.
+-- C's three numbers are made the settings of the definitions, and the reading is at these.
 use mathlib.Core.Path.{sym}
 use borrow.Author.Needs.{needs}
 use Rattle.qs.proofs.qs_parse.Statement.{statement}
 use Rattle.qs.proofs.qs_parse.Tie as tie
 
-settings-requires : tie.Need-settings-requires
-settings-requires c κs = search needs
+of-numbers-requires : tie.Need-of-numbers-requires
+of-numbers-requires c κs = search needs
 
 parse-requires : tie.Need-parse-requires
 parse-requires c κs = search needs
@@ -22,10 +22,10 @@ same-length-2 c = search needs
 returns : tie.Need-returns
 returns c =
     let at-parse = c .before .before .before .before .before in
-    let at-settings = at-parse .before .before .before in
-    rw (sym (c .answer .ensures), at-settings .settings .ensures) at (at-parse .parse .ensures)
+    let at-of-numbers = at-parse .before .before .before in
+    rw (sym (c .answer .ensures), at-of-numbers .of-numbers .ensures) at (at-parse .parse .ensures)
 
 pub qs-parse-spec : {M : Type 1} → statement M
 qs-parse-spec =
     tie.close
-    (tie.spec settings-requires parse-requires answer-requires same-length same-length-2 returns)
+    (tie.spec of-numbers-requires parse-requires answer-requires same-length same-length-2 returns)

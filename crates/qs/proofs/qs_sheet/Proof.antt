@@ -1,10 +1,10 @@
--- C's depth and flag are made the settings of the definitions, and the sheet is printed at these.
+-- C's three numbers are made the settings of the definitions, and the sheet is printed at these.
 use borrow.Author.Needs.{needs}
 use Rattle.qs.proofs.qs_sheet.Statement.{statement}
 use Rattle.qs.proofs.qs_sheet.Tie as tie
 
-settings-requires : tie.Need-settings-requires
-settings-requires c κs = search needs
+of-numbers-requires : tie.Need-of-numbers-requires
+of-numbers-requires c κs = search needs
 
 print-sheet-requires : tie.Need-print-sheet-requires
 print-sheet-requires c κs = search needs
@@ -21,14 +21,14 @@ same-length-3 c = search needs
 returns : tie.Need-returns
 returns c =
     let at-print-sheet = c .before .before .before .before .before .before in
-    let at-settings = at-print-sheet .before .before .before .before in
-    rw (at-settings .settings .ensures) at (at-print-sheet .print-sheet .ensures)
+    let at-of-numbers = at-print-sheet .before .before .before .before in
+    rw (at-of-numbers .of-numbers .ensures) at (at-print-sheet .print-sheet .ensures)
 
 pub qs-sheet-spec : {M : Type 1} → statement M
 qs-sheet-spec =
     tie.close
     (tie.spec
-    settings-requires
+    of-numbers-requires
     print-sheet-requires
     same-length
     same-length-2

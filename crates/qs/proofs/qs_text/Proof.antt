@@ -1,10 +1,10 @@
--- C's three numbers are made settings and behavior as the definitions have them, and the text read is of these.
+-- C's four numbers are made settings and behavior as the definitions have them, and the text read is of these.
 use borrow.Author.Needs.{needs}
 use Rattle.qs.proofs.qs_text.Statement.{statement}
 use Rattle.qs.proofs.qs_text.Tie as tie
 
-settings-requires : tie.Need-settings-requires
-settings-requires c κs = search needs
+of-numbers-requires : tie.Need-of-numbers-requires
+of-numbers-requires c κs = search needs
 
 behavior-requires : tie.Need-behavior-requires
 behavior-requires c κs = search needs
@@ -22,13 +22,13 @@ returns : tie.Need-returns
 returns c =
     let at-deserialize-str = c .before .before .before .before in
     let at-behavior = at-deserialize-str .before .before .before in
-    rw (at-behavior .before .settings .ensures, at-behavior .behavior .ensures) at (at-deserialize-str .deserialize-str .ensures)
+    rw (at-behavior .before .of-numbers .ensures, at-behavior .behavior .ensures) at (at-deserialize-str .deserialize-str .ensures)
 
 pub qs-text-spec : {M : Type 1} → statement M
 qs-text-spec =
     tie.close
     (tie.spec
-    settings-requires
+    of-numbers-requires
     behavior-requires
     deserialize-str-requires
     same-length
