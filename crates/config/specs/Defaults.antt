@@ -1,4 +1,4 @@
--- Settings: the one way to make them, and document 01's defaults.
+-- READING, 'Settings': the one way to make them, and the defaults.
 use Prim.Native.Nat.{ℕ}
 use mathlib.Core.Bool.{Bool, true, false}
 use Rattle.config.specs.declared.Config.{Config}
@@ -7,8 +7,7 @@ use Rattle.config.specs.declared.Config.{Config}
 abbrev pub settings : ℕ → Bool → Bool → Config
 settings depth form zeros = record { depth = depth; form = form; zeros = zeros }
 
--- Document 01, 'Settings and the lent buffers': "`Config::new` gives depth 5 and the flag off". Document 02, R-5, of
--- the key setting: "`Config::new` and the programs have it off."
+-- What `Config::new` gives: a depth of 5, and both the form flag and the key setting off.
 abbrev pub defaults : Config
 defaults = settings 5 false false
 

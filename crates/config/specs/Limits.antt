@@ -1,11 +1,11 @@
--- Document 01, 'Settings and the lent buffers': the limits, each named once.
+-- READING, 'Settings': the limits, each named once.
 -- The code has the limits as constants of `Config`, read by `is_too_deep` and `is_too_long` alone.
 use Prim.Native.Nat.{ℕ}
 
--- "Depth 0 to 64"
+-- The greatest depth.
 abbrev pub maxDepth : ℕ
 maxDepth = 64
 
--- "a ticket of 0 to 65,535 bytes"
+-- The greatest length of an input, in bytes.
 abbrev pub maxLen : ℕ
 maxLen = 65535

@@ -1,5 +1,4 @@
--- Document 01, 'A value (`collect_value`)': "Bytes up to `&` or end", told of the input's bytes. Where a value ends by
--- its takings is in specs/Scans.
+-- READING, 'Values': where a value ends, told of the input's bytes. Where it ends by its takings is in specs/Scans.
 use Prim.Native.Nat.{ℕ, _≤_, _<_}
 use mathlib.Core.Path.{_≡_}
 use mathlib.Core.Logic.{_⊎_}

@@ -1,5 +1,5 @@
--- Document 01, 'A key (`collect_key`)' and 'A value (`collect_value`)': what is collected of a place where a key or a
--- value starts. (What `collect_key` answers of a segment is crate key's `keyIn`.)
+-- READING, 'Keys' and 'Values': what is collected of a place where a key or a value starts, as by the source's
+-- `collect_key` and `collect_value`. (What `collect_key` answers of a segment is crate key's `keyIn`.)
 use Prim.Native.Nat.{ℕ}
 use mathlib.Core.Path.{_≡_}
 use mathlib.Core.Option.{Option}
@@ -24,8 +24,8 @@ pub record KeyTaken (until : Until) (config : Config) (input : List ℕ) (place 
   pub key : keyIn (found .key) (segment input place (found .taken .cursor .end))
       ≡ collected config (segment input place (found .taken .cursor .end))
 
--- "Bytes up to `&` or end. Empty is Null, else a decoded String." The raw segment runs from the place to the answer's
--- end.
+-- A value is scanned from the place on. Its raw segment, which runs to the answer's end, is Null where it is empty, and
+-- else stands for the String that it decodes to.
 pub record ValueIs (config : Config) (input : List ℕ) (place : ℕ) (found : CollectedValue) : Type 0 where
   pub symbol : Option Symbol
   pub scan : Scan Value config input place (found .end) symbol (found .place)

@@ -1,5 +1,5 @@
 -- The reading from somewhere in the input on, of which the contracts of the code that changes the tree speak. The
--- index is where the bytes that are left start; the place is document 01's, the number of bytes taken. The two differ
+-- index is where the bytes that are left start; the place is READING's, the number of bytes taken. The two differ
 -- where only the end of the input is read, as if it stood alone.
 use Prim.Native.Nat.{ℕ}
 use mathlib.Core.List.{List}

@@ -1,5 +1,4 @@
--- Scans: takings up to one that ends them. Document 01, 'A value', 'The root' and 'Inside a bracket': what ends a
--- segment.
+-- Scans: takings up to one that ends them. What ends a segment is said in READING, 'Values', 'The root' and 'Brackets'.
 use Prim.Native.Nat.{ℕ}
 use mathlib.Core.Path.{_≡_}
 use mathlib.Core.Bool.{Bool, true, false}
@@ -16,13 +15,13 @@ use Rattle.cursor.specs.Takings.{yielded, Takes, Took}
 
 -- The symbols that end a scan.
 abbrev pub stopsOf : Until → Stops
--- "Bytes up to `&` or end."
+-- A value runs up to `&`, over any other symbol.
 stopsOf Value = record { ampersand = true; equals = false; opening = false; closing = false }
--- "Below the depth, take until `]`", "and may hold `&`, `=` or `[`"
+-- In a bracket below the depth a key runs up to `]`, over any other symbol.
 stopsOf Closing = record { ampersand = false; equals = false; opening = false; closing = true }
--- "At the depth, the key runs on to the next `=`, `&` or end, brackets kept."
+-- A key at the depth runs up to `=` or `&`. Brackets are bytes of it.
 stopsOf KeyAtDepth = record { ampersand = true; equals = true; opening = false; closing = false }
--- "At `&` or end", "At `=`", "At `[` (depth above 0)", "Other bytes lengthen the segment."
+-- A root key runs up to `&` or `=` and, where brackets nest, up to `[`. A `]` is a byte of it.
 stopsOf (RootKey nests) = record { ampersand = true; equals = true; opening = nests; closing = false }
 
 -- The end ends every scan.

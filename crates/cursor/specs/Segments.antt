@@ -1,4 +1,4 @@
--- Document 01, 'Taking a byte (`next`)': a "raw segment".
+-- READING, 'Takings': a raw segment.
 use Prim.Native.Nat.{ℕ, _-_}
 use mathlib.Core.List.{List}
 use lib.ListN.{take, drop}

@@ -1,4 +1,4 @@
--- Document 01, 'Taking a byte (`next`)': one taking at a place, against the list of the input's takings (reading's
+-- READING, 'Takings': one taking at a place (the source's `next`), against the list of the input's takings (reading's
 -- specs/Taking).
 use Prim.Native.Nat.{ℕ, _+_, _≤_, _<_}
 use mathlib.Core.Path.{_≡_}
@@ -19,7 +19,7 @@ use Rattle.cursor.specs.declared.taking.Cursor.{Cursor}
 use Rattle.cursor.specs.declared.taking.Taken.{Taken}
 use Rattle.cursor.specs.Segments.{segment}
 
--- What the code's symbol stands for; none is document 01's "end".
+-- What the code's symbol stands for; none is the input's end.
 abbrev pub yielded : Symbol → Option taking.Symbol
 yielded Ampersand = some ampersand
 yielded Equals = some equals
@@ -46,14 +46,14 @@ escapeOf Opens = opens
 escapeOf Closes = closes
 escapeOf Neither = neither
 
--- Whether bytes start with "exactly `%5B` or `%5D` (capitals)".
+-- The escaped bracket that bytes start with, if any: `%5B` or `%5D`, with a capital letter.
 abbrev pub escapeAhead : List ℕ → taking.Escape
 escapeAhead [] = neither
 escapeAhead (b ∷ []) = neither
 escapeAhead (b ∷ c ∷ []) = neither
 escapeAhead (b ∷ c ∷ d ∷ s) = escape b c d
 
--- The same "With the flag on".
+-- The same where the form flag is on. Where it is off there is none.
 abbrev pub escapeIn : Config → List ℕ → taking.Escape
 escapeIn config s = cond (config .form) (escapeAhead s) neither
 
@@ -67,7 +67,7 @@ pub record Takes (config : Config) (input : List ℕ) (place : ℕ) (symbol : ta
   pub raw : first ∷ others ≡ segment input place place′
   pub list : tokens config (drop place input) ≡ token symbol first others ∷ tokens config (drop place′ input)
 
--- "Each taking adds 1, also past the end, where it yields "end"."
+-- A taking at the input's end finds no byte there, and moves the place on by 1 all the same.
 pub record TakesEnd (input : List ℕ) (place place′ : ℕ) : Type 0 where
   pub at-end : place ≡ length input
   pub on : place′ ≡ place + 1
@@ -77,8 +77,8 @@ abbrev pub Took : Config → List ℕ → ℕ → Option taking.Symbol → ℕ �
 Took config input place (some symbol) place′ = Takes config input place symbol place′
 Took config input place none place′ = TakesEnd input place place′
 
--- A cursor after a taking that moves the place to place′. "A raw segment runs from its start to the place before the
--- last taking."
+-- A cursor after a taking that moves the place to place′. The taking isn't part of the raw segment, which ends where
+-- the taking starts.
 abbrev pub advanced : Symbol → Cursor → ℕ → Taken
 advanced symbol cursor place′ =
     record { symbol = symbol; cursor = record { place = place′; start = cursor .start; end = cursor .place } }

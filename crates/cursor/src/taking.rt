@@ -1,4 +1,4 @@
-// One taking (document 01, 'Taking a byte').
+// One taking (READING, 'Takings').
 ghost use mathlib.Core.Path.{_≡_};
 ghost use mathlib.Core.Option.{some};
 ghost use Prim.Native.Nat.{_≤_};
@@ -7,7 +7,7 @@ ghost use Rattle.reading.specs.Taking.{symbolOf, escape};
 ghost use Rattle.cursor.specs.Takings.{yielded, number, sameSymbol, escapeOf, escapeIn, advanced, Next};
 use config::Config;
 
-// Document 01's "place", the number of bytes taken, and the bounds of the raw segment that is being read (`index` and
+// The place, which is the number of bytes taken, and the bounds of the raw segment that is being read (`index` and
 // `acc` in the source).
 pub struct Cursor {
     pub place: usize,
@@ -15,7 +15,7 @@ pub struct Cursor {
     pub end: usize,
 }
 
-// What a taking yields: `&`, `=`, `[`, `]`, another byte, or document 01's "end".
+// What a taking yields: `&`, `=`, `[`, `]`, another byte, or the input's end.
 pub enum Symbol {
     Ampersand,
     Equals,

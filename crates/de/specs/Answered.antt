@@ -1,5 +1,4 @@
--- Document 01, 'Field reads': "offset and length in text". Every text that is answered lies in the used text and is
--- UTF-8. Proved in proofs/Answered.
+-- READING, 'Field reads': every text that is answered lies in the used text and is UTF-8. Proved in proofs/Answered.
 use Prim.Native.Nat.{ℕ, _+_, _*_, _<_, _≤_}
 use mathlib.Core.Path.{_≡_}
 use mathlib.Core.List.{List}

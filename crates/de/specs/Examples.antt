@@ -1,5 +1,5 @@
--- Field reads with what documents 01 and 02 say of each, gathered as lists and decided together (proofs/Examples). Lent
--- are 6 records and 12 bytes of text; before, every element is 7.
+-- Field reads with what READING, 'Field reads' and 'Many names', says of each, gathered as lists and decided together
+-- (proofs/Examples). Lent are 6 records and 12 bytes of text; before, every element is 7.
 use Prim.Native.Nat.{ℕ}
 use Prim.Native.String.{String}
 use mathlib.Core.Path.{_≡_}
@@ -41,7 +41,7 @@ textTest duplicates input name expects = textTestAt defaults duplicates input na
 abbrev pub textTests : List TextTest
 textTests =
     textTest TakeLast "a=1" "a" (answer 0 0 2 2 1 1) ∷
-    -- NoValue and Null are empty
+    -- the text of NoValue, and of Null
     textTest TakeLast "a" "a" (answer 0 0 2 1 0 0) ∷
     textTest TakeLast "a=" "a" (answer 0 0 2 1 0 0) ∷
     -- an Int key is no String key
@@ -57,18 +57,18 @@ textTests =
     -- another key that is no UTF-8
     textTest TakeLast "a&%ff" "a" (answer 0 0 3 2 0 0) ∷
     textTest TakeLast "a=%ff" "a" (answer 21 0 2 2 0 0) ∷
-    -- a String root has the empty name only
+    -- a String root is the field of the empty name, and there is no other
     textTest TakeLast "=x" "" (answer 0 0 1 1 0 1) ∷
     textTest TakeLast "=x" "x" (answer 17 0 1 1 0 0) ∷
     -- NoValue and Null roots
     textTest TakeLast "" "" (answer 17 0 1 0 0 0) ∷
     textTest TakeLast "=" "" (answer 17 0 1 0 0 0) ∷
-    -- root Sequence or Uninitialized
+    -- a root that is a Sequence, and one that is Uninitialized
     textTest TakeLast "=1&=2" "" (answer 16 0 3 2 0 0) ∷
     textTest TakeLast "&&" "" (answer 16 0 1 0 0 0) ∷
     -- a Map is no text
     textTest TakeLast "a[b]=1" "a" (answer 18 0 3 3 0 0) ∷
-    -- a Sequence's last; two or more
+    -- of a Sequence the last; several where these are refused, and one
     textTest TakeLast "a=1&a=2" "a" (answer 0 0 4 3 2 1) ∷
     textTest Error "a=1&a=2" "a" (answer 19 0 4 3 0 0) ∷
     textTest Error "a[]=1" "a" (answer 0 0 3 2 1 1) ∷
@@ -129,7 +129,7 @@ listTests =
     -- the root
     listTest TakeLast "a=1" "b" 2 (answer 17 0 2 2 0 0) (0 ∷ 0 ∷ []) ∷
     listTest TakeLast "&" "b" 2 (answer 16 0 1 0 0 0) (0 ∷ 0 ∷ []) ∷
-    -- the reading's refusals, and the slice untouched under 1 to 3
+    -- the reading's refusals, of which 1 leaves the slice as it was
     listTest TakeLast "a[" "a" 2 (answer 4 3 0 0 0 0) (0 ∷ 0 ∷ []) ∷
     listTestAt (atDepth 65) TakeLast "a" "a" 2 (answer 1 0 0 0 0 0) (before 2) ∷
     -- an index with a needless zero, with the key setting off and on: then it is no Int, and the Map no list
@@ -174,7 +174,7 @@ unansweredTest config input names ends size call =
 
 abbrev pub fieldsTests : List FieldsTest
 fieldsTests =
-    -- in the caller's order
+    -- two names, not in the order of the fields
     fieldsTest TakeLast "a=1&b=2" "ba" (1 ∷ 2 ∷ []) 6 (reads 0 0 3 4) (0 ∷ 3 ∷ 1 ∷ 0 ∷ 1 ∷ 1 ∷ []) ∷
     -- a name again, one that is absent, and words past the last answer
     fieldsTest TakeLast "a=12" "aab" (1 ∷ 2 ∷ 3 ∷ []) 11 (reads 0 0 2 3)

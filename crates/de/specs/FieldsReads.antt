@@ -1,5 +1,5 @@
 -- All fields in one reading: what the call answers, and what it leaves in the lent buffers and the answer words.
--- Document 02, R-2. The public contract equates its result with `fieldsRead`.
+-- READING, 'Many names'. The public contract equates its result with `fieldsRead`.
 use Prim.Native.Nat.{ℕ, _*_}
 use mathlib.Core.Bool.{Bool, cond, not}
 use mathlib.Core.List.{List}
@@ -28,24 +28,24 @@ pub record FieldsOutcome : Type 0 where
   pub reading : Outcome
   pub answers : List ℕ
 
--- "Under 1 to 15 … the answer words are untouched."
+-- No name is answered: the answer words are as they were.
 abbrev pub unanswered : List ℕ → Outcome → FieldsOutcome
 unanswered answers o = record { reading = o; answers = answers }
 
--- "The call's own number is 0 once the reading accepts; 16 to 21 stand only in the answer words." Each name's answer is
--- that of the text read of its field, in the tree that was made; "past the last answer" nothing changes.
+-- After an accepted reading the call's own number is that of the reading, 0. Each name's answer is that of the text
+-- read of its field, in the tree that was made, with any refusal of that field; behind the answers nothing changes.
 abbrev pub fieldsAfter : DuplicateKeyBehavior → List (List ℕ) → List ℕ → Node → Outcome → FieldsOutcome
 fieldsAfter duplicates names answers tree o =
     record { reading = o; answers = over (answersOf (λ name. textNamed duplicates name (tree .value)) names) answers }
 
--- "reads the ticket a single time and answers every name as a text read", into these words, text and answer words.
+-- The input is read once, and the names are answered from that one tree, into these words, text and answer words.
 abbrev pub fieldsAnswered : Asked → List ℕ → List ℕ → List ℕ → FieldsOutcome
 fieldsAnswered asked words text answers =
     let names = namesIn (asked .names) (asked .ends) in
     after (read (asked .config) (asked .input) words text) (fieldsAfter (asked .duplicates) names answers)
     (unanswered answers)
 
--- 24 and 25: "Both leave every slice untouched."
+-- Under 24 and 25 nothing is read, and all that is lent is as it was.
 abbrev pub unasked : Refusal → List ℕ → List ℕ → List ℕ → FieldsOutcome
 unasked x words text answers = unanswered answers (unread x words text)
 
@@ -57,8 +57,7 @@ fit asked = endsFit 0 (length (asked .names)) (asked .ends)
 abbrev pub answerRoom : Asked → ℕ
 answerRoom asked = length (asked .ends) * answerWidth
 
--- "24: ends that fall, or pass the names; before refusal 1. 25: fewer than three answer words a name, for number,
--- offset and length; after 24, before 1."
+-- Before the reading the ends are tested (24), and then whether the answer words suffice for all names (25).
 unfoldable pub fieldsRead : Asked → List ℕ → List ℕ → List ℕ → FieldsOutcome
 fieldsRead asked words text answers =
     let answered = fieldsAnswered asked words text answers in

@@ -50,7 +50,7 @@ pub record NotSingle : Type 0 where
   pub firstSkipped : WithAnswers (0 ∷ 1 ∷ 1 ∷ 7 ∷ 7 ∷ 7 ∷ 7 ∷ []) → ⊥
   -- the word past the last answer cleared
   pub cleared : WithAnswers (0 ∷ 3 ∷ 1 ∷ 0 ∷ 1 ∷ 1 ∷ 0 ∷ []) → ⊥
-  -- a refusal after the reading accepts
+  -- a refusal of the call's own after an accepted reading
   pub refused : WithRefusal NoSuchField → ⊥
   -- the answer words zeroed under 4
   pub zeroed : AfterRefusal (0 ∷ 0 ∷ 0 ∷ 0 ∷ 0 ∷ 0 ∷ 0 ∷ []) → ⊥

@@ -1,4 +1,4 @@
--- A whole field read: what it answers, and what it leaves in the lent buffers. Document 01, 'Field reads'. The public
+-- A whole field read: what it answers, and what it leaves in the lent buffers. READING, 'Field reads'. The public
 -- contracts equate their results with `textRead` and `listRead`.
 use Prim.Native.Nat.{ℕ, _-_}
 use mathlib.Core.Bool.{cond}
@@ -26,12 +26,11 @@ pub record TextOutcome : Type 0 where
   pub words : List ℕ
   pub text : List ℕ
 
--- An answer after a reading that left this: "counts, records and text are as the reading left them".
+-- An answer after a reading that left this: a field read changes neither words nor text.
 abbrev pub leaving : Outcome → FieldRead → TextOutcome
 leaving o answer = record { answer = answer; words = o .words; text = o .text }
 
--- Where the reading is refused: its number and place, and what it leaves. "Offset and length are 0 under every number
--- from 1 on."
+-- Where the reading is refused: its number and place, and what it leaves. There is no text, so offset and length are 0.
 abbrev pub unread : Outcome → TextOutcome
 unread o = leaving o (record { reading = o .answer; offset = 0; len = 0 })
 
@@ -44,7 +43,7 @@ abbrev pub textAnswer : Reading → TextRead → FieldRead
 textAnswer reading (Text offset len) = record { reading = reading; offset = offset; len = len }
 textAnswer reading (Refused x) = refusedAnswer reading x
 
--- "After a reading accepts, the call looks for a root name": the text of its field, in the tree that was made.
+-- Where the reading is accepted: the text of the field of a name, in the tree that was made.
 abbrev pub textAfter : DuplicateKeyBehavior → List ℕ → Node → Outcome → TextOutcome
 textAfter duplicates name tree o =
     leaving o (textAnswer (o .answer) (textNamed duplicates name (tree .value)))
@@ -59,13 +58,13 @@ pub record ListOutcome : Type 0 where
   pub read : TextOutcome
   pub list : List ℕ
 
--- "the result's own length is the number of elements and its offset 0"
+-- The answer's length is how many elements the list has; its offset has nothing to say, and is 0.
 abbrev pub listAnswer : Reading → ListResult → FieldRead
 listAnswer reading (listed count words) = record { reading = reading; offset = 0; len = count }
 listAnswer reading (refused x) = refusedAnswer reading x
 
--- "It writes offset and length for each into a lent u32 slice, the rest zero"; "all zero under every later number". The
--- slice has so many words.
+-- What a list leaves in its slice, which has so many words: two for each element, and zeros behind them. A refusal
+-- leaves zeros alone.
 abbrev pub listWords : ℕ → ListResult → List ℕ
 listWords size (listed count words) = words ++ replicate (size - length words) 0
 listWords size (refused x) = replicate size 0
@@ -79,7 +78,7 @@ abbrev pub listAfter : DuplicateKeyBehavior → List ℕ → ℕ → Node → Ou
 listAfter duplicates name size tree o =
     listOutcome o size (listOfField duplicates size (rootField name (tree .value)))
 
--- "The list's slice is untouched under 1 to 3 and all zero under every later number."
+-- What a refused reading leaves in the list's slice, by its number: 1 to 3 what it held, the later ones zeros.
 abbrev pub leftIn : ℕ → List ℕ → List ℕ
 leftIn number list = cond (leb number (code NoRecord)) list (replicate (length list) 0)
 

@@ -1,6 +1,6 @@
--- Document 02, R-2: "The answers equal the single reads, one by one, in the caller's order, a repeated name included.
--- An empty list gives no answers and still reads the ticket." Proved in proofs/SingleReads; what that rules out stands
--- in specs/NotSingle.
+-- READING, 'Many names': each name is answered as its own text read answers it, and so is one that comes again; where
+-- no name is asked for, the input is read all the same. Proved in proofs/SingleReads; what that rules out stands in
+-- specs/NotSingle.
 use Prim.Native.Nat.{ℕ, _<_, _≤_}
 use mathlib.Core.Path.{_≡_}
 use mathlib.Core.Logic.{_≢_}
@@ -43,7 +43,7 @@ pub record AsSingleReads (asked : Asked) (words text answers : List ℕ) (o : Fi
       → (i : ℕ) → i < length (asked .ends)
       → asTextRead (o .reading) (answerAt (o .answers) i)
       ≡ textRead (asked .config) (asked .duplicates) (asked .input) (nameOf (asked .names) (asked .ends) i) words text
-  -- past the last answer, and under any number of its own, the answer words are untouched.
+  -- the words behind the last answer are as they were, and under any number of its own all answer words are.
   pub past : drop (answerRoom asked) (o .answers) ≡ drop (answerRoom asked) answers
   pub untouched : o .reading .answer .number ≢ 0 → o .answers ≡ answers
 

@@ -23,7 +23,7 @@ use parse::Parsed;
 use reading::Reading;
 use refusals::Refusal;
 
-// Document 01's result of a field read: the reading's, with the field's own number where it has one, and the text's
+// What a field read answers: the reading's numbers, with the field's own number where it has one, and the text's
 // offset and length (of a list, 0 and the number of elements). C gets it as it stands.
 #[repr(C)]
 pub struct FieldRead {

@@ -1,4 +1,4 @@
--- Where no failed escape swallows '+' or '%', decoding is WHATWG's (specs/Agreement).
+-- Where no '+' and no '%' is swallowed, decoding is WHATWG's (specs/Agreement).
 use mathlib.Core.Path.{_≡_, refl, sym, ap, _∙_}
 use mathlib.Core.Bool.{true, false, not, _&&_}
 use mathlib.Core.List.{List, [], _∷_}

@@ -1,4 +1,5 @@
--- Demand 2: decoding equals WHATWG's wherever no failed escape swallows `+` or `%`. Proved in proofs/Agree.antt.
+-- Demand 2 (docs/CLAIMS.md), READING, 'Decoding': where no `+` and no `%` is swallowed, decoding is WHATWG's. Proved in
+-- proofs/Agree.antt.
 use mathlib.Core.Path.{_≡_}
 use mathlib.Core.Bool.{true}
 use mathlib.Core.List.{List}

@@ -1,5 +1,5 @@
--- Worked examples: raw bytes, what document 01 makes of them, and what WHATWG does. Decided together in
--- proofs/Examples.antt.
+-- Worked examples: raw bytes, what decoding makes of them here, and what it does in WHATWG's standard. Decided together
+-- in proofs/Examples.antt.
 use Prim.Native.Nat.{ℕ}
 use mathlib.Core.Path.{_≡_}
 use mathlib.Core.List.{List, [], _∷_, map}
@@ -15,7 +15,7 @@ pub record Example : Type 0 where
 
 abbrev pub examples : List Example
 examples =
-    -- document 01's example of the difference
+    -- the difference that READING, 'Examples', shows
     record { raw = ascii "%%41"; here = ascii "%%41"; standard = ascii "%A" }
     -- a swallowed `+` stays
     ∷ record { raw = ascii "%4+"; here = ascii "%4+"; standard = ascii "%4 " }

@@ -1,4 +1,4 @@
--- Document 01, 'Decoding': "two hex digits, either case".
+-- Hex digits, with capital and with small letters, and what they name (READING, 'Decoding').
 use Prim.Native.Nat.{ℕ, _+_, _-_, _*_}
 use mathlib.Core.Bool.{Bool, cond}
 use lib.Dec.{leb, ltb}

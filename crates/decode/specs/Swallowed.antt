@@ -1,5 +1,6 @@
--- "no failed escape swallows '+' or '%'": then decoding is the standard's (specs/Agreement). `decoded` of
--- specs/Decoding, `percentDecode` of specs/Whatwg and `noneSwallowed` have the same cases. At a byte x, y and z next:
+-- Which bytes are swallowed by a failed escape, a `%` that names no byte. If no `+` and no `%` is among them, decoding
+-- is the standard's (specs/Agreement). `decoded` of specs/Decoding, `percentDecode` of specs/Whatwg and `noneSwallowed`
+-- have the same cases. At a byte x, y and z next:
 --
 --   case                          here                 the standard    swallowed
 --   x is the last                 x                    x               nothing

@@ -2,7 +2,7 @@
 -- then percent-decodes.
 --
 -- That parser's last step is left out: "UTF-8 decode without BOM" of each name and value, which puts U+FFFD where they
--- aren't UTF-8. Captions are to arrive byte for byte: document 01's decoding answers bytes, UTF-8 is a test of its own
+-- aren't UTF-8. Here no byte of a caption is to be replaced: decoding answers bytes, UTF-8 is a test of its own
 -- (`is_utf8`), and a field read refuses what isn't UTF-8.
 use Prim.Native.Nat.{ℕ}
 use mathlib.Core.Bool.{cond, not}

@@ -189,8 +189,8 @@ pub fn is_plain(raw: &[u8]) -> bool
     true
 }
 
-// Decodes `raw` into `out`: yes and the length, with the further bytes of `out` as they were; or, exactly if the
-// decoded bytes don't fit, no with `out` unchanged.
+// Decodes `raw` into `out` and answers how many bytes it wrote; the bytes behind them stay as they were. If there is no
+// room for all, it writes none and answers no.
 pub fn decode(raw: &[u8], out: &mut [u8]) -> Decoded
     ensures answer { λ r. ⌜ answerOf r ≡ answer (now (raw .entry)) (now (out .entry)) ⌝ }
     ensures output { λ _. ⌜ now (out .exit) ≡ written (now (raw .entry)) (now (out .entry)) ⌝ }
@@ -213,8 +213,8 @@ pub fn answered_len(answer: Decoded) -> usize
     }
 }
 
-// Text shown to a caller: `raw` itself where it holds neither '+' nor '%', else the first bytes of `decoded`, as many
-// as decoding answered, or all where there are fewer. specs/ShownAfter tells what that is after `decode` of `raw`.
+// What a caller is shown: `raw` where it is its own decoding, else the front of `decoded`, in the length that was
+// answered, or all where there is less. specs/ShownAfter tells what that is after `decode` of `raw`.
 pub fn shown<'a>(raw: &'a [u8], decoded: &'a [u8], answer: Decoded) -> &'a [u8]
     ensures { λ r. ⌜ now r ≡ shownOf (now (raw .entry)) (now (decoded .entry)) answer ⌝ }
 {

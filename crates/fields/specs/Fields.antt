@@ -1,4 +1,4 @@
--- Document 01, 'Field reads': the field of a name.
+-- READING, 'Field reads': the field of a name.
 use Prim.Native.Nat.{ℕ}
 use mathlib.Core.Bool.{Bool, true, false, cond}
 use mathlib.Core.List.{List, [], _∷_}
@@ -19,7 +19,7 @@ sameBytes [] (y ∷ ys) = false
 sameBytes (x ∷ xs) [] = false
 sameBytes (x ∷ xs) (y ∷ ys) = cond (eqb x y) (sameBytes xs ys) false
 
--- "as a String key only": the key's bytes are the name's, which is not decoded.
+-- Whether a key is the String that a name is: its bytes are the name's, which is not decoded.
 abbrev pub isNamed : List ℕ → Label → Bool
 isNamed name unkeyed = false
 isNamed name (intKey a) = false
@@ -30,8 +30,8 @@ abbrev pub named : List ℕ → Forest → Field
 named name none = refused NoSuchField
 named name (child number row value later) = cond (isNamed name (row .label)) (found value) (named name later)
 
--- "A NoValue or Null root has no fields; a String root has the empty name only"; 16 is "root Sequence or
--- Uninitialized", 17 "no such field".
+-- The field of a name, by the root: a Map's child, or under the empty name a String itself. 17 tells that there is
+-- none, as in Null and NoValue; a Sequence and Uninitialized are not looked into (16).
 abbrev pub rootField : List ℕ → Value → Field
 rootField name uninitialized = refused WrongRoot
 rootField name null = refused NoSuchField

@@ -1,4 +1,4 @@
--- Document 01, 'Field reads': "Text (`deserialize_str`)".
+-- READING, 'Field reads': a value as a text (the source's `deserialize_str`).
 use Prim.Native.Nat.{ℕ}
 use mathlib.Core.Bool.{Bool, true, false, cond}
 use mathlib.Core.List.{List}
@@ -12,8 +12,8 @@ use Rattle.fields.specs.declared.text.TextRead.{TextRead}
 use Rattle.fields.specs.declared.text.TextRead.the-variants.{Text, Refused}
 use Rattle.fields.specs.Fields.{Field, found, refused, rootField}
 
--- A value that is no Sequence: "String, offset and length in text; Null or NoValue, empty (0, 0)"; 18 for another
--- kind, 21 for bytes that are not UTF-8.
+-- A value that is no Sequence: a String's own text, and an empty one for Null and NoValue; 18 for another kind, 21 for
+-- bytes that are not UTF-8.
 abbrev pub singleText : Value → TextRead
 singleText uninitialized = Refused WrongKind
 singleText null = Text 0 0
@@ -22,12 +22,13 @@ singleText (string o x) = cond (utf8 x) (Text o (length x)) (Refused NotUtf8)
 singleText (map children) = Refused WrongKind
 singleText (sequence children) = Refused WrongKind
 
--- "Sequence, its last". An empty one has no last and is, as in the source, of the wrong kind: `before` says so.
+-- The text of a Sequence's last child. An empty one has none and is, as in the source, of the wrong kind: `before` says
+-- so.
 abbrev pub lastText : TextRead → Forest → TextRead
 lastText before none = before
 lastText before (child number row value later) = lastText (singleText value) later
 
--- "with `DuplicateKeyBehavior::Error`, two or more refuse"
+-- Whether a Sequence has more values than are allowed: `DuplicateKeyBehavior::Error` of the source allows only one.
 abbrev pub several : DuplicateKeyBehavior → Forest → Bool
 several TakeLast children = false
 several Error none = false

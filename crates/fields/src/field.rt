@@ -63,7 +63,7 @@ fn find_named(words: &[u32], text: &[u8], name: &[u8]) -> FieldAt
 }
 
 // The field of a name in the root, as the source's `deserialize_map` and `field_order` (in `MapDeserializer`) find it.
-// A String root has the empty name only.
+// A String root is the field of the empty name itself.
 pub(crate) fn root_field(words: &[u32], text: &[u8], name: &[u8]) -> FieldAt
     requires { ⌜ Readable (now words) (now text) ⌝ ∗ ⌜ 0 < recordCount (now words) ⌝ }
     ensures { λ r. ⌜ r ≡ fieldAt (now (words .entry)) (now (text .entry)) (now (name .entry)) ⌝ }

@@ -1,5 +1,5 @@
--- Document 01, 'The listing program', the head of its input: "`depth=5`, `form=0` (0 or 1), a newline after each, then
--- the ticket to end of file. Depth is one to three digits without leading zero."
+-- READING, 'The listing': the head of the program's input, a line with the depth and one with the flag. What follows,
+-- to the end of the input, is the query string, READING's ticket.
 use Prim.Native.Nat.{ℕ, _+_}
 use mathlib.Core.Bool.{Bool, true, false, cond, not}
 use mathlib.Core.List.{List, [], _∷_}
@@ -22,7 +22,7 @@ unfoldable pub leadingDigits : List ℕ → List ℕ
 leadingDigits [] = []
 leadingDigits (b ∷ s) = cond (isDigit b) (b ∷ leadingDigits s) []
 
--- "one to three digits without leading zero"
+-- Whether digits can be a depth: there is one, or there are up to three and the first is no zero.
 abbrev pub isDepth : List ℕ → Bool
 isDepth [] = false
 isDepth (a ∷ []) = true
@@ -30,8 +30,8 @@ isDepth (a ∷ b ∷ []) = not (eqb a zero)
 isDepth (a ∷ b ∷ c ∷ []) = not (eqb a zero)
 isDepth (a ∷ b ∷ c ∷ d ∷ s) = false
 
--- The head, once its depth and the start of the query string (document 01's "ticket") are known: the flag, with the
--- newlines before and after it.
+-- The head, once its depth and the start of the query string are known: the flag, with the newlines before and after
+-- it.
 unfoldable pub flagIn : ℕ → ℕ → List ℕ → Head
 flagIn depth start bytes =
     cond (begins (ascii "\nform=0\n") bytes) (Good depth false start)

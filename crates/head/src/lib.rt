@@ -8,7 +8,7 @@ ghost use Rattle.ascii.specs.Bytes.{zero};
 ghost use Rattle.ascii.specs.Digits.{allDigits, valueFrom};
 ghost use Rattle.head.specs.Heads.{begins, leadingDigits, isDepth, flagIn, depthIn, headOf};
 
-// The settings of a reading and where the query string (document 01's "ticket") starts, or that the head is bad.
+// The settings of a reading and where the query string, READING's ticket, starts; or that the head is bad.
 pub enum Head {
     Bad,
     Good {
@@ -53,7 +53,7 @@ fn count_digits(bytes: &[u8]) -> usize
     i
 }
 
-// Whether digits are one to three without a leading zero.
+// Whether digits can be a depth: there is one, or there are up to three and the first is no zero.
 fn is_depth(digits: &[u8]) -> bool
     ensures { λ r. ⌜ r ≡ isDepth (now (digits .entry)) ⌝ }
 {

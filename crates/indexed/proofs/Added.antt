@@ -21,13 +21,13 @@ use Rattle.records.specs.Records.{valueAt, withValue, inserted}
 use Rattle.records.specs.Siblings.{children, standing, position}
 use Rattle.aids.specs.declared.Among.{Among}
 use Rattle.aids.proofs.Keeps.{kept-refl, kept-trans}
-use Rattle.indexed.specs.Aids.{Gap, Ready, Grown}
+use Rattle.finding.specs.Aids.{Gap, Ready, Grown}
 use Rattle.indexed.specs.Adding.{Leaves, enough, few, Appends, ifRoom, unkeyed, childless}
 use Rattle.indexed.specs.Adding.{sequenceOfTwo, pushed, paired, appendedHere, childAdded, appended}
 use Rattle.records.proofs.Chains.{found-within}
-use Rattle.indexed.proofs.Keeping.{word-kept, position-kept}
-use Rattle.indexed.proofs.Shortcuts.{gap-position}
-use Rattle.indexed.proofs.Finds.{ready-linked, ready-kept}
+use Rattle.finding.proofs.Keeping.{word-kept, position-kept}
+use Rattle.finding.proofs.Shortcuts.{gap-position}
+use Rattle.finding.proofs.Finds.{ready-linked, ready-kept}
 
 -- By the answer b of `has_room`.
 module _ (ws : List ℕ) (count : ℕ) {b : Bool} (e : b ≡ leb count (recordCount ws)) where

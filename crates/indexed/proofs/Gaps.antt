@@ -13,7 +13,7 @@ use Rattle.records.specs.Keys.{InText}
 use Rattle.records.specs.Siblings.{lastOf}
 use Rattle.records.specs.Nodes.{Nodes, nil, node, first, size, indicator, count, Context, plug}
 use Rattle.records.specs.Holds.{Row, Represents, Rising, Holds}
-use Rattle.indexed.specs.Aids.{firstOf, Gap}
+use Rattle.finding.specs.Aids.{firstOf, Gap}
 use Rattle.records.proofs.Rows.{length-withWords, record-row, record-far, length-linked, linked-child, linked-next, linked-far}
 use Rattle.records.proofs.Forests.{indicator-same, indicator-other, record-kept, row-kept, frame, numbers}
 use Rattle.records.proofs.Contexts.{countAround, count-plug, unplug, replug, frame-around}

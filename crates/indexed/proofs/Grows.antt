@@ -21,10 +21,10 @@ use Rattle.records.specs.Keys.{InText}
 use Rattle.records.specs.Siblings.{children}
 use Rattle.records.specs.Holds.{HoldsSome}
 use Rattle.indexed.specs.Adding.{childless, sequenceOfTwo}
-use Rattle.indexed.specs.Aids.{Gap, Aided, aidsFor, Grown, Noted, NotedTwo}
+use Rattle.finding.specs.Aids.{Gap, Aided, aidsFor, Grown, Noted, NotedTwo}
 use Rattle.records.proofs.Rows.{length-linked, length-withWords}
 use Rattle.records.proofs.Held.{well-formed}
-use Rattle.indexed.proofs.Keeping.{aided-kept}
+use Rattle.finding.proofs.Keeping.{aided-kept}
 use Rattle.indexed.proofs.Knowing.{aided-none, aided-valued, some-inserted-known, aided-inserted, some-paired-known, aided-paired}
 
 -- The aids for some records.

@@ -19,7 +19,7 @@ use Rattle.records.specs.Siblings.{children}
 use Rattle.indexed.specs.Adding.{unkeyed, childless, sequenceOfTwo}
 use Rattle.records.specs.Nodes.{Nodes, nil, node, plug}
 use Rattle.records.specs.Holds.{Holds, HoldsSome}
-use Rattle.indexed.specs.Aids.{parentIndex, ChildOf, Gap, Aided}
+use Rattle.finding.specs.Aids.{parentIndex, ChildOf, Gap, Aided}
 use Rattle.records.proofs.Rows.{revalued, length-withWords, length-linked, value-far, record-far, linked-far}
 use Rattle.records.proofs.Forests.{numbers}
 use Rattle.records.proofs.Contexts.{At}
@@ -28,8 +28,8 @@ use Rattle.records.proofs.Valued.{length-withValue, value-holds}
 use Rattle.indexed.proofs.Sequences.{pair-holds}
 use Rattle.indexed.proofs.Gaps.{put, gap-holds}
 use Rattle.indexed.proofs.Parents.{ParentIn, parent-plug, there, in-forest, in-words, put-old, put-new, put-parent, node-parent}
-use Rattle.indexed.proofs.Keeping.{holds-kept, some-kept}
-use Rattle.indexed.proofs.Shortcuts.{gap-prev}
+use Rattle.finding.proofs.Keeping.{holds-kept, some-kept}
+use Rattle.finding.proofs.Shortcuts.{gap-prev}
 
 -- No aids are right for any words.
 pub aided-none : (ws : List ℕ) (count : ℕ) → count ≤ noAids → Aided ws count noAids

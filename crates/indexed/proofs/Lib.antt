@@ -1,10 +1,7 @@
 pub mod Sequences
 pub mod Start
-pub mod Keeping
-pub mod Shortcuts
 pub mod Gaps
 pub mod Parents
 pub mod Knowing
-pub mod Finds
 pub mod Grows
 pub mod Added

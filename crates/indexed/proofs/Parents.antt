@@ -6,7 +6,7 @@ use Rattle.records.specs.declared.store.Record.{Record}
 use Rattle.records.specs.Siblings.{children}
 use Rattle.records.specs.Nodes.{Nodes, nil, node, Context, here, down, along, plug}
 use Rattle.records.specs.Holds.{Holds}
-use Rattle.indexed.specs.Aids.{ChildOf}
+use Rattle.finding.specs.Aids.{ChildOf}
 use Rattle.records.proofs.Forests.{numbers}
 use Rattle.records.proofs.Contexts.{At}
 use Rattle.records.proofs.Held.{children-are, at}

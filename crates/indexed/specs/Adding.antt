@@ -1,4 +1,4 @@
--- Document 01, 'Adding (`append_value`)', on the words.
+-- READING, 'Adding' (the source's `append_value`), on the words.
 use Prim.Native.Nat.{ℕ, zero, suc, _+_, _-_, _<_, _≤_, _^_}
 use mathlib.Core.Path.{_≡_}
 use mathlib.Core.Bool.{cond}
@@ -15,7 +15,7 @@ use Rattle.row.specs.Row.{kindWord, uninitializedKind, mapKind, sequenceKind, n
 use Rattle.row.specs.Words.{recordCount, word}
 use Rattle.aids.specs.declared.Among.{Among}
 use Rattle.aids.specs.Kept.{freeFrom, Kept}
-use Rattle.indexed.specs.Aids.{Ready, Grown}
+use Rattle.finding.specs.Aids.{Ready, Grown}
 use Rattle.records.specs.Records.{valueAt, withValue, inserted}
 use Rattle.records.specs.Siblings.{children, lastOf, position}
 
@@ -30,7 +30,7 @@ pub data Leaves (change : Change) (aids : ℕ) (ws' : List ℕ) : Appended → T
   enough : {n : ℕ} → change .answer ≡ Used n → Grown (change .words) aids n ws' → Leaves change aids ws' (Used n)
   few : change .answer ≡ TooFew → Leaves change aids ws' TooFew
 
--- "Space is checked just before each of these": the words changed so that `count` records are used, or too few and
+-- A change, if there are records enough for it: the words changed so that `count` records are used, or too few and
 -- nothing changed.
 abbrev pub ifRoom : List ℕ → ℕ → List ℕ → Change
 ifRoom ws count ws' =
@@ -41,7 +41,7 @@ ifRoom ws count ws' =
 abbrev pub unkeyed : ValueWords → Record
 unkeyed v = record { key = record { kind = noKeyKind; offset = 0; len = 0 }; value = v }
 
--- The record of a child under the empty key: "key's text offset (0 for an empty key)".
+-- The record of a child under the empty key, whose offset is 0 since it has no text.
 abbrev pub emptyKeyed : ValueWords → Record
 emptyKeyed v = record { key = record { kind = stringKeyKind; offset = 0; len = 0 }; value = v }
 
@@ -49,12 +49,12 @@ emptyKeyed v = record { key = record { kind = stringKeyKind; offset = 0; len = 0
 abbrev pub childless : ℕ → ValueWords
 childless kind = record { kind = kind; offset = 0; len = 0 }
 
--- "a Sequence gets it last"
+-- The value as one element more of a Sequence, behind its others.
 unfoldable pub pushed : List ℕ → ℕ → ℕ → ValueWords → Change
 pushed ws used n v = ifRoom ws (used + 1) (inserted ws used n (lastOf 0 (children ws n)) 0 (unkeyed v))
 
--- "a single value becomes a Sequence of two, keeping its record number and key, the old value moving to a new record
--- and the new one following"
+-- The record of a single value made a Sequence. Its number and its key stay; its old value and the new one are the two
+-- elements, in the two records that come next.
 abbrev pub sequenceOfTwo : List ℕ → ℕ → ℕ → ValueWords → List ℕ
 sequenceOfTwo ws used n v =
     inserted (inserted (withValue ws n (childless sequenceKind)) used n 0 0 (unkeyed (valueAt ws n)))
@@ -63,7 +63,7 @@ sequenceOfTwo ws used n v =
 unfoldable pub paired : List ℕ → ℕ → ℕ → ValueWords → Change
 paired ws used n v = ifRoom ws (used + 2) (sequenceOfTwo ws used n v)
 
--- The rule at a record that is no Map; "Uninitialized becomes it".
+-- The rule at a record that is no Map. One that is Uninitialized takes the value itself, and needs no other record.
 unfoldable pub appendedHere : List ℕ → ℕ → ℕ → ValueWords → Change
 appendedHere ws used n v =
     cond (eqb (word ws n kindWord) uninitializedKind) (record { words = withValue ws n v; answer = Used used })
@@ -79,7 +79,7 @@ abbrev pub atPosition : {A : Type 0} → Position → (ℕ → A) → (ℕ → �
 atPosition (Found m) found between = found m
 atPosition (Between prev next) found between = between prev next
 
--- The rule at record n: "a Map adds it under its empty key, calling the same rule again". Each call is at a child,
+-- The rule at record n, which for a Map that has the empty key is the same rule at that child. Each call is at a child,
 -- whose number is greater, so that as much fuel as there are records from n on isn't used up.
 unfoldable pub appended : ℕ → List ℕ → List ℕ → ℕ → ℕ → ValueWords → Change
 appended zero ws text used n v = record { words = ws; answer = TooFew }

@@ -1,3 +1,1 @@
-pub mod Aids
-pub mod Finding
 pub mod Adding

@@ -1,4 +1,4 @@
--- What the key setting does to document 01's key rule, and that with it on digits that differ are keys that differ.
+-- What the key setting does to the key rule, and that with it on digits that differ are keys that differ.
 use mathlib.Core.Path.{_≡_, refl, sym, ap, ap₂, _∙_}
 use mathlib.Core.Bool.{Bool, true, false, cond, not, _&&_}
 use mathlib.Core.List.{List, [], _∷_}

@@ -1,4 +1,4 @@
--- Document 01, 'A key (`collect_key`)': what is collected of a segment, and what the code's answer stands for.
+-- READING, 'Keys' (`collect_key` of the source): what is collected of a segment, and what the code's answer stands for.
 use Prim.Native.Nat.{ℕ}
 use mathlib.Core.List.{List, [], _∷_}
 use Rattle.config.specs.declared.Config.{Config}
@@ -11,7 +11,7 @@ pub data Collected : Type 0 where
   no-key : Collected
   key : Key → Collected
 
--- "An empty segment is no key."
+-- The key of a segment, if it has any byte.
 abbrev pub collected : Config → List ℕ → Collected
 collected config [] = no-key
 collected config (b ∷ s) = key (keyOf config (b ∷ s))

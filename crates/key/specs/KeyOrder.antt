@@ -1,5 +1,4 @@
--- Document 01, 'Settings and the lent buffers': "Map children stand in key order: Ints by value, then Strings by
--- bytes."
+-- READING, 'Records': the order of keys, in which the children of a Map stand. Every Int is before every String.
 -- Orders are the library's: `Ordering·lt` where the first stands before the second.
 use Prim.Native.Nat.{ℕ, compare, Ordering, Ordering·lt, Ordering·eq, Ordering·gt}
 use mathlib.Core.List.{List, [], _∷_}

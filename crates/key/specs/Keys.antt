@@ -1,4 +1,4 @@
--- Document 01, 'A key', with the setting of document 02, R-5: the keys, and the key of a segment that isn't empty.
+-- READING, 'Keys': the keys, and the key of a segment that isn't empty.
 use Prim.Native.Nat.{ℕ}
 use mathlib.Core.Bool.{Bool, false, cond, not, _&&_}
 use mathlib.Core.List.{List, [], _∷_}
@@ -8,7 +8,7 @@ use Rattle.ascii.specs.Digits.{allDigits, valueFrom}
 use Rattle.config.specs.declared.Config.{Config}
 use Rattle.decode.specs.Decoding.{decoded}
 
--- `Key` of the source: "Int", or "a String, decoded".
+-- `Key` of the source: a number, or the bytes of a String, which are decoded.
 pub data Key : Type 0 where
   int : ℕ → Key
   str : List ℕ → Key
@@ -23,14 +23,14 @@ needlessZero [] = false
 needlessZero (b ∷ []) = false
 needlessZero (b ∷ c ∷ s) = eqb b zero
 
--- Document 02, R-5: "a setting under which a digits key with a needless leading zero is a String".
+-- Such a zero counts with the key setting on: it keeps digits from being an Int.
 abbrev pub isPadded : Config → List ℕ → Bool
 isPadded config s = config .zeros && needlessZero s
 
--- "Raw digits only, with value at most 4,294,967,295, is Int", and under that setting without such a zero.
+-- An Int is digits that aren't escaped, of at most the greatest value, and without a zero that counts.
 abbrev pub isInt : Config → List ℕ → Bool
 isInt config s = allDigits s && leb (valueFrom 0 s) maxInt && not (isPadded config s)
 
--- "Anything else is a String, decoded."
+-- The key of a segment: what is no Int is a String, and that is decoded.
 abbrev pub keyOf : Config → List ℕ → Key
 keyOf config s = cond (isInt config s) (int (valueFrom 0 s)) (str (decoded s))

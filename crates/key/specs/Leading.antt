@@ -1,4 +1,4 @@
--- Document 02, R-3, over document 01, 'A key': one pass over the bytes that a key begins with, and what it tells.
+-- READING, 'Keys': one pass over the bytes that a key begins with, and what it tells.
 use Prim.Native.Nat.{ℕ, _≤_, _<_}
 use mathlib.Core.Path.{_≡_}
 use mathlib.Core.Bool.{true, false}

@@ -1,4 +1,4 @@
--- Document 02, R-5: what the key setting does to document 01's key rule.
+-- READING, 'Keys': what the key setting does to the key rule.
 use Prim.Native.Nat.{ℕ}
 use mathlib.Core.Path.{_≡_}
 use mathlib.Core.Bool.{true, false, cond, _&&_}
@@ -10,8 +10,8 @@ use Rattle.decode.specs.Decoding.{decoded}
 use Rattle.key.specs.Keys.{Key, int, str, maxInt, needlessZero, keyOf}
 use Rattle.key.specs.Collected.{collected}
 
--- Document 01's rule, which knows no setting: "Raw digits only, with value at most 4,294,967,295, is Int. Anything else
--- is a String, decoded."
+-- The rule without the setting: digits up to the greatest Int are an Int, however many zeros are in front, and the rest
+-- is a String.
 abbrev pub ruleWithout : List ℕ → Key
 ruleWithout s = cond (allDigits s && leb (valueFrom 0 s) maxInt) (int (valueFrom 0 s)) (str (decoded s))
 
@@ -19,13 +19,13 @@ ruleWithout s = cond (allDigits s && leb (valueFrom 0 s) maxInt) (int (valueFrom
 abbrev pub Off : Type 0
 Off = (config : Config) (s : List ℕ) → config .zeros ≡ false → keyOf config s ≡ ruleWithout s
 
--- On, it is "document 01's key rule with this sentence added": "a digits key with a needless leading zero is a String".
+-- On, digits with a needless zero are a String as they stand, and for all else it is that rule too.
 abbrev pub On : Type 0
 On =
     (config : Config) (s : List ℕ) → config .zeros ≡ true
     → keyOf config s ≡ cond (allDigits s && needlessZero s) (str s) (ruleWithout s)
 
--- On, "7, 07 and 007 ... are different folders": digits that differ are keys that differ.
+-- On, digits that differ are keys that differ: 7, 07 and 007 are three of them.
 abbrev pub Apart : Type 0
 Apart =
     (config : Config) (x y : List ℕ) → config .zeros ≡ true → allDigits x ≡ true → allDigits y ≡ true

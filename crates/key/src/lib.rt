@@ -10,7 +10,7 @@ ghost use Rattle.key.specs.Collected.{collected, keyIn};
 ghost use Rattle.key.specs.Leading.{LongestInt, Tells};
 use config::Config;
 
-// Document 01's key kind: none, an Int and its value, or a String, which is the segment decoded.
+// The kind of key that a segment is (READING, 'Keys'): none, an Int of a value, or a String, its bytes decoded.
 pub enum KeyKind {
     None,
     Int(u32),

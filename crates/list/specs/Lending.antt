@@ -7,7 +7,7 @@ use Rattle.row.specs.Row.{recordWidth}
 use Rattle.output.specs.declared.Written.{Written}
 use Rattle.output.specs.declared.Written.the-variants.{Whole, Cut}
 
--- Document 01, 'The listing program': "The program lends 2,000 records and 65,535 text bytes."
+-- How many records and bytes of text the program lends (READING, 'The listing').
 abbrev pub lentRecords : ℕ
 lentRecords = 2000
 

@@ -1,4 +1,4 @@
--- Document 01, 'The listing program': what it prints for its standard input.
+-- READING, 'The listing': what the program prints for its standard input.
 use Prim.Native.Nat.{ℕ}
 use mathlib.Core.Bool.{false}
 use mathlib.Core.List.{List}
@@ -10,8 +10,8 @@ use Rattle.head.specs.declared.Head.the-variants.{Bad, Good}
 use Rattle.head.specs.Heads.{headOf}
 use Rattle.listing.specs.Listing.{badHead, listing}
 
--- "A bad head prints only `answer=head`." After a good one the rest is the query string (document 01's "ticket"), "to
--- end of file". Document 02, R-5, of the key setting: "the programs have it off".
+-- A bad head has a line of its own. Behind a good one all the rest is the query string, READING's ticket, which is read
+-- with the key setting off.
 abbrev pub replyTo : Head → List ℕ → List ℕ → List ℕ → List ℕ
 replyTo Bad input words text = badHead
 replyTo (Good depth form start) input words text =

@@ -1,5 +1,4 @@
--- Document 01, 'The listing program': the values of a tree in the order in which they are listed, "parent before
--- children".
+-- READING, 'The listing': the values of a tree in the order in which they are listed, each in front of its children.
 use Prim.Native.Nat.{ℕ, _+_}
 use Prim.Native.String.{String}
 use mathlib.Core.Option.{Option, none, some}
@@ -9,7 +8,7 @@ use Rattle.reading.specs.Trees.{Tree, uninitialized, null, noValue, string, map
 use Rattle.reading.specs.Trees.{Entries, noEntries, entry, Elements, noElements, element}
 use Rattle.reading.specs.Buffers.{treeIn}
 
--- "kind (map, sequence, string, null, novalue, uninit)"
+-- The name by which a kind is listed.
 abbrev pub kindName : Tree → String
 kindName (map es) = "map"
 kindName (sequence xs) = "sequence"
@@ -27,7 +26,7 @@ bytesOf null = none
 bytesOf noValue = none
 bytesOf uninitialized = none
 
--- What is listed of a value: its level ("distance from the root"), its key, the name of its kind, and a String's bytes.
+-- What is listed of a value: its level, counted from the root on, its key, the name of its kind, and a String's bytes.
 pub record Listed : Type 0 where
   pub level : ℕ
   pub key : Option Key

@@ -1,5 +1,5 @@
--- The headline: of the outcome of any reading, accepted or refused, `list` writes exactly document 01's listing. Proved
--- in proofs/Complete as `complete`.
+-- The headline: of the outcome of any reading, accepted or refused, `list` writes its listing (READING, 'The listing'),
+-- and leaves nothing out. Proved in proofs/Complete as `complete`.
 use Prim.Native.Nat.{ℕ, _≤_}
 use mathlib.Core.Path.{_≡_}
 use mathlib.Core.List.{List, _++_}
@@ -23,7 +23,7 @@ pub record Listing (o : Outcome) : Type 0 where
   pub answered :
       (out : List ℕ) → length (listing o) ≤ length out
       → answerFor (boundedListing o) out ≡ Whole (length (listing o))
-  -- and of a refusal the listing is the first four lines only
+  -- and of a refusal the listing has the answer's lines alone
   pub refused : 1 ≤ o .answer .number → listing o ≡ answerLines (o .answer)
 
 abbrev pub Complete : Type 0

@@ -11,7 +11,7 @@ use Rattle.listing.specs.Listing.{listing}
 
 abbrev pub examples : List Example
 examples =
-    -- document 01's example, whole
+    -- a Map with one String
     writes "a=1" (
     "answer=0" ∷ "place=0" ∷ "nodes=2" ∷ "bytes=2" ∷
     "level=0" ∷ "key=-" ∷ "kind=map" ∷ "text=-" ∷

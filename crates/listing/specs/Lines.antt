@@ -1,4 +1,4 @@
--- Document 01, 'The listing program': "four lines a value".
+-- READING, 'The listing': the four lines of a value.
 use Prim.Native.Nat.{ℕ}
 use Prim.Native.String.{String}
 use mathlib.Core.Option.{Option, none, some}
@@ -8,17 +8,17 @@ use Rattle.ascii.specs.Texts.{ascii}
 use Rattle.output.specs.Numbers.{decimal, hex}
 use Rattle.listed.specs.Listed.{Listed}
 
--- "one item a line": its name, the item, and a newline.
+-- A line: the name of its item, the item, and a newline.
 abbrev pub line : String → List ℕ → List ℕ
 line name item = ascii name ++ item ++ ascii "\n"
 
--- "key, `i` and decimal, `s` and lower-case hex, or `-` for none (the empty key is `s`)"
+-- A letter tells an Int from a String: `i31` and `s31` are two keys. The empty key is `s` alone, and not `-`.
 abbrev pub keyItem : Option Key → List ℕ
 keyItem none = ascii "-"
 keyItem (some (int n)) = ascii "i" ++ decimal n
 keyItem (some (str x)) = ascii "s" ++ hex x
 
--- "bytes in lower-case hex or `-`"
+-- A String's bytes in hex; `-` for a value that has none.
 abbrev pub textItem : Option (List ℕ) → List ℕ
 textItem none = ascii "-"
 textItem (some x) = hex x

@@ -1,5 +1,5 @@
-// The values of a reading's outcome, written in listing order: `list` as document 01's listing program prints them,
-// `write_sheet` as the lines of the sheet. One walk serves both.
+// The values of a reading's outcome, written in listing order: `list` writes the lines of READING, 'The listing', and
+// `write_sheet` those of the sheet. One walk serves both.
 // The listing is specs/Listing; that `list` writes it of every reading is specs/Complete, and how long it is
 // specs/Room. Below it stand the values in listing order (listed), the sheet's lines (sheet), the writers into a lent
 // output (output), a record's row (row), the definitions of a reading (reading) and what these stand on.

@@ -8,7 +8,7 @@ ghost use Rattle.listing.specs.Styles.{shownIn, Wrote};
 use crate::lines;
 use listed::Item;
 
-// How a value is written: as document 01's four lines, or as a line of the sheet.
+// How a value is written: as the four lines of the listing, or as a line of the sheet.
 pub enum Style {
     Lines,
     Sheet,

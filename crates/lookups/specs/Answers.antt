@@ -1,4 +1,4 @@
--- Document 02, R-2: "answers every name as a text read", in "three answer words a name, for number, offset and length".
+-- READING, 'Many names': what a text read answers of each name, as words.
 use Prim.Native.Nat.{ℕ, _+_}
 use mathlib.Core.List.{List, [], _∷_, _++_, flatMap}
 use lib.ListN.{length, set, drop}
@@ -19,11 +19,11 @@ answerOf (Refused x) = record { number = code x; offset = 0; len = 0 }
 abbrev pub answerWords : Answer → List ℕ
 answerWords a = a .number ∷ a .offset ∷ a .len ∷ []
 
--- The words of all answers, "in the caller's order", where names are read so.
+-- The words of all answers, in the order of the names, where names are read so.
 abbrev pub answersOf : (List ℕ → TextRead) → List (List ℕ) → List ℕ
 answersOf read names = flatMap (λ name. answerWords (answerOf (read name))) names
 
--- "past the last answer, the answer words are untouched"
+-- New words over the first of the old ones: those behind them stay.
 abbrev pub over : List ℕ → List ℕ → List ℕ
 over new old = new ++ drop (length new) old
 

@@ -14,7 +14,7 @@ startOf ends (suc i) = getD ends i 0
 abbrev pub nameOf : List ℕ → List ℕ → ℕ → List ℕ
 nameOf bytes ends i = textPart bytes (startOf ends i) (getD ends i 0 - startOf ends i)
 
--- Answer i: "three answer words a name, for number, offset and length".
+-- Answer i, from the words that it has.
 abbrev pub answerAt : List ℕ → ℕ → Answer
 answerAt answers i =
     record {

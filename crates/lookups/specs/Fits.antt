@@ -1,5 +1,5 @@
--- Document 02, R-2: "ends that fall, or pass the names", by the index of each. Ends fit exactly if none falls below the
--- one before it, which of the first is 0, and none passes the bytes. Proved in proofs/Fits.
+-- READING, 'Many names': which ends are refused, by the index of each. Ends fit exactly if none falls below the one
+-- before it, which of the first is 0, and none passes the bytes. Proved in proofs/Fits.
 use Prim.Native.Nat.{ℕ, _<_, _≤_}
 use mathlib.Core.Path.{_≡_}
 use mathlib.Core.Bool.{true}

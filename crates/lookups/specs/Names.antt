@@ -1,4 +1,4 @@
--- Document 02, R-2: "a list of names, as lent bytes and a lent list of ends".
+-- READING, 'Many names': the names, found in the lent bytes by where each of them ends.
 use Prim.Native.Nat.{ℕ, _-_}
 use mathlib.Core.Bool.{Bool, true, false, cond}
 use mathlib.Core.List.{List, [], _∷_}

@@ -28,7 +28,7 @@ single Leaf.null = null
 single Leaf.noValue = noValue
 single (Leaf.string x) = string x
 
--- "Needing a map"
+-- The entries of a map that is needed.
 abbrev pub expectMap : Tree → Option Entries
 expectMap uninitialized = some noEntries
 expectMap null = none
@@ -37,7 +37,7 @@ expectMap (string x) = none
 expectMap (map es) = some es
 expectMap (sequence xs) = none
 
--- `[]`
+-- The elements of a Sequence at `[]`.
 abbrev pub expectSequence : Tree → Option Elements
 expectSequence uninitialized = some noElements
 expectSequence null = none
@@ -57,7 +57,7 @@ abbrev pub snoc : Elements → Tree → Elements
 snoc noElements last = element last noElements
 snoc (element value xs) last = element value (snoc xs last)
 
--- "a single value becomes a Sequence of two"
+-- A second value for a single one: both are in a Sequence then.
 abbrev pub sequenceOfTwo : Tree → Leaf → Tree
 sequenceOfTwo value leaf = sequence (element value (element (single leaf) noElements))
 
@@ -71,7 +71,7 @@ abbrev mutual
   append leaf (map es) = map (appendEmptyKey leaf es)
   append leaf (sequence xs) = sequence (snoc xs (single leaf))
 
-  -- "a Map adds it under its empty key, calling the same rule again"
+  -- In a Map the value goes under the empty key, and the rule starts anew there.
   pub appendEmptyKey : Leaf → Entries → Entries
   appendEmptyKey leaf noEntries = entry (str []) (single leaf) noEntries
   appendEmptyKey leaf (entry key value es) =

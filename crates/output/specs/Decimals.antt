@@ -1,4 +1,4 @@
--- Document 01, 'The listing program': "decimal", which the definition `decimal` is.
+-- READING, 'The listing': what a decimal is, and that the definition `decimal` is one.
 use Prim.Native.Nat.{ℕ, _≤_, _<_}
 use mathlib.Core.Path.{_≡_}
 use mathlib.Core.Bool.{true}

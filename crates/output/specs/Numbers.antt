@@ -1,4 +1,4 @@
--- Document 01, 'The listing program': numbers "in decimal" and bytes "in lower-case hex", as ASCII.
+-- READING, 'The listing': numbers in base ten, and bytes in hex with small letters, as ASCII.
 use Prim.Native.Nat.{ℕ, zero, suc, _+_, _-_, _/_, _%_}
 use mathlib.Core.Bool.{cond}
 use mathlib.Core.List.{List, [], _∷_, _++_}

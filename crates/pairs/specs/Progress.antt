@@ -26,8 +26,8 @@ abbrev pub stepBy : Config → Mode → Option Symbol → List ℕ → Step
 stepBy config mode (some symbol) raw = step config mode symbol raw
 stepBy config mode none raw = finish config mode then rootKey []
 
--- Where a reading starts: document 01's "place" of the input's first byte, and a count that is no less than the records
--- and the bytes of text in use there.
+-- Where a reading starts: the place of the input's first byte (READING, 'Takings'), and a count that is no less than
+-- the records and the bytes of text in use there.
 pub record Start : Type 0 where
   pub place : ℕ
   pub cover : ℕ

@@ -175,7 +175,7 @@ pub record AcceptedIn (answer : Answer) (words text : List ℕ) (here : Here) : 
   pub stores : Stores words text (here .records) (here .bytes) tree laid
   pub is : answer ≡ accepted tree (usedBy here laid)
 
--- What `parse_pairs` answers: a refusal's place is document 01's.
+-- What `parse_pairs` answers: of a refusal the place (READING, 'Takings'), and not the index.
 abbrev pub PairsEnd : Answer → List ℕ → List ℕ → Turn → Type 0
 PairsEnd answer words text (Going place here) = AcceptedIn answer words text here
 PairsEnd answer words text (Refused x place) = answer ≡ refusedAt x place

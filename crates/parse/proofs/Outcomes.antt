@@ -26,7 +26,7 @@ use Rattle.row.specs.Words.{recordCount}
 use Rattle.records.specs.Records.{recordFields, withRecord}
 use Rattle.indexed.specs.Adding.{unkeyed, childless}
 use Rattle.records.proofs.Rows.{length-withWords}
-use Rattle.indexed.proofs.Keeping.{holds-kept}
+use Rattle.finding.proofs.Keeping.{holds-kept}
 use Rattle.tree.specs.declared.Here.{Here}
 use Rattle.tree.specs.Stored.{Stores, clearedFrom}
 use Rattle.tree.proofs.Lays.{full-le}
@@ -138,7 +138,7 @@ module _ (config : Config) (s W X : List ℕ) {R : List ℕ} {aids : ℕ} (small
           → outcomeOf (RefusedHere refusal place) W″ X″ ≡ outcome (length W) (length X) (parsed config s (lentBy W X))
       some-refused p q = rw (p, q, w, x) (sym (ap (outcome (length R) (length X)) (ends e))) ∙ as-lent
 
--- "Empty ticket: NoValue root."
+-- An empty input is accepted: its root is NoValue.
 pub empty-accepted : (W X : List ℕ) {R W″ X″ : List ℕ} → recordWidth ≤ length W → R ≡ rooted noValueKind W
     → (W″ ≡ clearedFrom (1 * recordWidth) R) × (X″ ≡ clearedFrom 0 X)
     → outcomeOf (Accepted 1 0) W″ X″ ≡ outcome (length W) (length X) (accepted (alone noValue) rootOnly)

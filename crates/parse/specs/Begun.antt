@@ -5,7 +5,7 @@ use Rattle.row.specs.Row.{uninitializedKind}
 use Rattle.aids.specs.Kept.{freeFrom, Kept}
 use Rattle.records.specs.Records.{withRecord}
 use Rattle.indexed.specs.Adding.{unkeyed, childless}
-use Rattle.indexed.specs.Aids.{Aided}
+use Rattle.finding.specs.Aids.{Aided}
 
 -- An Uninitialized root is written, and the aids are ready, in what is free.
 pub record Begun (ws ws' : List ℕ) (aids : ℕ) : Type 0 where

@@ -1,5 +1,5 @@
--- Demand 3 about the code, document 01's 'A ticket that grows': "one claim about what two whole readings answer and
--- leave in their buffers".
+-- Demand 3 of docs/CLAIMS.md about the code: READING, 'Growth', of the answers of two calls and of what stands in their
+-- words and text then.
 -- It holds of any two calls that meet the contract of `parse`. Proved in proofs/Calls as `growth`.
 use Prim.Native.Nat.{ℕ, _≤_}
 use mathlib.Core.Path.{_≡_}

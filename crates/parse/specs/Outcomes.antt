@@ -1,5 +1,4 @@
--- The answer of `parse` as document 01's result: 'Settings and the lent buffers', "The result gives number (0
--- accepted), place (0 if accepted), records used and text bytes used, the last two 0 on refusal."
+-- The answer of `parse` as the four numbers of READING, 'Records'.
 use Prim.Native.Nat.{ℕ}
 use mathlib.Core.List.{List}
 use Rattle.reading.specs.declared.Reading.{Reading}

@@ -1,5 +1,5 @@
--- Demand 1 about the code: a call for an input of n bytes that is lent n + 1 records and n text bytes is never refused
--- for space. Proved in proofs/Calls as `space`.
+-- Demand 1 of docs/CLAIMS.md about the code: for an input of n bytes, n + 1 records and n bytes of text are space
+-- enough. Proved in proofs/Calls as `space`.
 use Prim.Native.Nat.{ℕ}
 use mathlib.Core.List.{List}
 use Rattle.config.specs.declared.Config.{Config}

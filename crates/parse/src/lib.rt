@@ -42,7 +42,7 @@ pub enum Parsed {
 }
 
 impl Parsed {
-    // The answer as document 01's result, in numbers.
+    // The answer as the four numbers of READING, 'Records'.
     pub fn answer(self) -> Reading
         ensures { λ r. ⌜ r ≡ answerOf self ⌝ }
     {
@@ -175,7 +175,7 @@ fn parse_input(input: &[u8], config: Config, words: &mut [u32], text: &mut [u8])
 }
 
 // Reads the input into the lent words and text. Refusals 1 to 3 leave both unchanged, the later ones leave both zero;
-// what an accepted reading doesn't use is zero.
+// an accepted reading leaves zeros behind what it uses.
 pub fn parse(input: &[u8], config: Config, words: &mut [u32], text: &mut [u8]) -> Parsed
     ensures { λ r. ⌜ outcomeOf r (now (words .exit)) (now (text .exit))
         ≡ reading config (now (input .entry)) (now (words .entry)) (now (text .entry)) ⌝ }

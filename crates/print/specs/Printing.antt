@@ -1,5 +1,5 @@
 -- A reading and the sheet of its tree: what the call answers, and what it leaves in the lent buffers and the lent page.
--- Document 02, R-1. The public contract equates its result with `printing`.
+-- READING, 'The sheet'. The public contract equates its result with `printing`.
 use Prim.Native.Nat.{ℕ, _*_}
 use mathlib.Core.Bool.{cond}
 use mathlib.Core.List.{List, _++_}
@@ -18,23 +18,23 @@ pub record Printed : Type 0 where
   pub reading : Outcome
   pub page : List ℕ
 
--- "under any refusal, the page is unchanged"
+-- Nothing is printed, and the page stays as it was.
 abbrev pub unprinted : Outcome → List ℕ → Printed
 unprinted o page = record { reading = o; page = page }
 
--- 23: records and text are as the reading left them.
+-- 23, with the counts, the words and the text that the reading left.
 abbrev pub shortPage : Outcome → Outcome
 shortPage o = record { answer = refusedAfter (o .answer) ShortPage; words = o .words; text = o .text }
 
--- "the lent page is shorter than 73 bytes a value"; else the sheet stands in it. "Past the last line … the page is
--- unchanged."
+-- After an accepted reading: refused where the page is too short for a line a value, else the sheet stands at its front
+-- and the rest of it stays.
 abbrev pub printedOf : Node → Outcome → List ℕ → Printed
 printedOf tree o page =
     let lines = sheet (plain (tree .value)) in
     cond (ltb (length page) (o .answer .records * lineBytes)) (unprinted (shortPage o) page)
     (record { reading = o; page = lines ++ drop (length lines) page })
 
--- "after a reading accepts"
+-- The page is asked for only where the reading is accepted: its own refusals come first.
 abbrev pub printing : Config → List ℕ → List ℕ → List ℕ → List ℕ → Printed
 printing config input words text page =
     after (read config input words text) (λ tree o. printedOf tree o page) (λ o. unprinted o page)

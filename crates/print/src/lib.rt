@@ -1,4 +1,4 @@
-// The sheet of a reading, printed into a lent page: document 02, R-1. What is promised stands in specs/Printing.
+// The sheet of a reading, printed into a lent page (READING, 'The sheet'). What is promised stands in specs/Printing.
 // Below it stand the reader (parse), the walk over the values (listing), the sheet's lines (sheet) and the definitions
 // of a reading (reading).
 ghost use mathlib.Core.Path.{_≡_};

@@ -1,4 +1,4 @@
--- Document 01, 'Field reads': the numbers by which the C functions answer.
+-- READING, 'Decoding': the numbers by which the C functions answer.
 use Prim.Native.Nat.{ℕ}
 use mathlib.Core.Path.{_≡_}
 use mathlib.Core.Bool.{Bool, true, false, cond}
@@ -6,11 +6,11 @@ use mathlib.Core.List.{List}
 use lib.IntN.{ℤ, pos, negsuc}
 use Rattle.utf8.specs.Grammar.{Utf8}
 
--- "the first answers the length or -1 for no", by the values of decode's answer.
+-- The answer of decoding, by the values of decode's answer: the length, or -1, which no length is.
 abbrev pub lengthOrNo : Bool × ℕ → ℤ
 lengthOrNo a = cond (a .0) (pos (a .1)) (negsuc 0)
 
--- "the second 1 or 0"
+-- The answer of the test for UTF-8.
 abbrev pub oneOrZero : Bool → ℤ
 oneOrZero true = pos 1
 oneOrZero false = pos 0

@@ -1,4 +1,4 @@
--- A, `&`, B is A and then B.
+-- A, `&`, B is read as A is, and then B from A's tree on.
 use Prim.Native.Nat.{ℕ, _+_}
 use mathlib.Core.Path.{_≡_, ap, _∙_}
 use mathlib.Core.List.{List, [], _∷_, _++_}

@@ -31,7 +31,7 @@ use Rattle.reading.proofs.Changes.{element, two, newChild, newEntry}
 use Rattle.reading.proofs.Labels.{compare-label}
 use Rattle.reading.proofs.Runs.{Ends, run-ends}
 
--- One of document 01's refusals 4 to 15.
+-- One of refusals 4 to 15 (READING, 'Refusals').
 abbrev pub Numbered : Refusal → Type 0
 Numbered x = T (leb 4 (code x) && leb (code x) 15)
 

@@ -1,4 +1,4 @@
--- The tickets of documents 01 and 02, decided by computing the definitions.
+-- The tests of specs/Starred, specs/Others and specs/Zeros, decided by computing the definitions.
 use mathlib.Core.Path.{refl}
 use mathlib.Core.List.{flatten}
 use Rattle.decode.specs.Hex.{digitOf}

@@ -1,5 +1,5 @@
--- Document 01, 'The root' (needing a map), 'Inside a bracket' (`[]`) and 'Adding (`append_value`)': the rules that
--- change the tree.
+-- READING, 'The root' (where a map is needed), 'Brackets' (`[]`) and 'Adding' (`append_value` of the source): the rules
+-- that change the tree.
 use Prim.Native.Nat.{ℕ, _+_}
 use mathlib.Core.List.{List, [], _∷_, _++_}
 use lib.ListN.{length}
@@ -12,8 +12,8 @@ use Rattle.reading.specs.Values.{string, map, sequence, Forest, none, ch
 use Rattle.reading.specs.Leaves.{Leaf}
 use Rattle.reading.specs.Charging.{Environment, Used, Made, made, refused, Rule, NodeRule, over, bind, charge}
 
--- "Needing a map: Uninitialized becomes Map, a Map serves, the rest refuse (8, 9, 10)." `expect_map` of the source;
--- here the children of the map.
+-- The children of a map that is needed: those of a Map, and none yet where the value is undecided. All else is refused,
+-- by 8, 9 or 10. `expect_map` of the source.
 abbrev pub expectMap : Value → Used → Made Forest
 expectMap uninitialized used = made none used
 expectMap null used = refused MapOnNull
@@ -22,7 +22,7 @@ expectMap (string o x) used = refused MapOnString
 expectMap (map children) used = made children used
 expectMap (sequence children) used = refused MapOnSequence
 
--- "`]`: Uninitialized becomes Sequence, a Sequence serves, the rest refuse (6, 7)."
+-- Those of a Sequence at `[]`, likewise. All else is refused, by 6 or 7.
 abbrev pub expectSequence : Value → Used → Made Forest
 expectSequence uninitialized used = made none used
 expectSequence null used = refused SequenceOnSingle
@@ -55,7 +55,7 @@ leafText Leaf.null = []
 leafText Leaf.noValue = []
 leafText (Leaf.string x) = x
 
--- A new key whose text, if it has any, starts at o. The offset is "0 for an empty key".
+-- A new key whose text, if it has any, starts at o. An empty key has no place there, and gets 0.
 abbrev pub labelAt : Key → ℕ → Label
 labelAt (int a) o = intKey a
 labelAt (str []) o = stringKey 0 []
@@ -71,21 +71,21 @@ valueAt Leaf.null o = null
 valueAt Leaf.noValue o = noValue
 valueAt (Leaf.string x) o = string o x
 
--- "A new key takes the value": a new child in front of the later siblings, its text "key before value". "one new
--- record", "text for a new key plus the value"
+-- A value under a new key: a new child in front of the later siblings, for which one record is needed, and text for the
+-- key and behind it for the value.
 abbrev pub insertNew : Environment → Key → Leaf → Rule Forest
 insertNew env key leaf later used =
     let offset = length (used .text) in
     charge env 1 (keyText key ++ leafText leaf)
     (child (used .records) (rowAt key offset) (valueAt leaf (offset + length (keyText key))) later) used
 
--- A new key that is entered: "Uninitialized if new".
+-- A new key that is entered: what stands there is still undecided.
 abbrev pub enterNew : Environment → Key → Rule Forest
 enterNew env key later used =
     charge env 1 (keyText key) (child (used .records) (rowAt key (length (used .text))) uninitialized later) used
 
--- "a single value becomes a Sequence of two, keeping its record number and key, the old value moving to a new record
--- and the new one following"; "two for the last rule". The number stands in the forest above, so it is kept.
+-- A second value for a single one: a Sequence stands in its record, under its key, and the old value and the new one
+-- get a record each. The number stands in the forest above, so it is kept.
 abbrev pub sequenceOfTwo : Environment → Leaf → NodeRule
 sequenceOfTwo env leaf row value used =
     let new = child (used .records + 1) bare (valueAt leaf (length (used .text))) none in
@@ -96,13 +96,13 @@ abbrev pub snoc : Forest → Forest → Forest
 snoc none last = last
 snoc (child number row value later) last = child number row value (snoc later last)
 
--- "a Sequence gets it last"
+-- A value more at the end of a Sequence.
 abbrev pub push : Environment → Leaf → Row → Forest → Used → Made Node
 push env leaf row children used =
     charge env 1 (leafText leaf)
     (sequenceAt row (snoc children (child (used .records) bare (valueAt leaf (length (used .text))) none))) used
 
--- `append_value` of the source. "Uninitialized becomes it" and takes no new record.
+-- `append_value` of the source. In place of an undecided value the new one takes no new record.
 abbrev mutual
   pub appendValue : Environment → Leaf → NodeRule
   appendValue env leaf row uninitialized used =
@@ -113,8 +113,8 @@ abbrev mutual
   appendValue env leaf row (map children) used = over (mapAt row) (appendEmptyKey env leaf children used)
   appendValue env leaf row (sequence children) used = push env leaf row children used
 
-  -- "a Map adds it under its empty key, calling the same rule again". This is `atEntry (str [])` below, written out for
-  -- the recursion (proofs/Rules: append-at-entry).
+  -- In a Map the value goes under the empty key, and the rule starts anew there. This is `atEntry (str [])` below,
+  -- written out for the recursion (proofs/Rules: append-at-entry).
   pub appendEmptyKey : Environment → Leaf → Rule Forest
   appendEmptyKey env leaf none used = insertNew env (str []) leaf none used
   appendEmptyKey env leaf (child number row value later) used =
@@ -141,7 +141,7 @@ inMap key occupied vacant row value used =
 abbrev pub insertUnique : Environment → Key → Leaf → NodeRule
 insertUnique env key leaf = inMap key (appendValue env leaf) (insertNew env key leaf)
 
--- A key that is entered and exists: "An existing key is charged nothing."
+-- A key that is entered and exists: nothing changes, and no space is needed.
 abbrev pub unchanged : NodeRule
 unchanged row value used = made (at row value) used
 

@@ -1,5 +1,5 @@
--- The tree that words and text hold. Document 01, 'Settings and the lent buffers' (the words of a record) and 'A ticket
--- that grows': a ticket's tree is what "its accepted reading leaves in records and text".
+-- The tree that words and text hold: READING, 'Records' (the words of a record) and 'Growth' (a ticket's tree, which an
+-- accepted reading leaves in them).
 -- Of buffers that a reading leaves this is the very tree that it made, record numbers and offsets included
 -- (specs/TreeHeld): none of them has another kind, or a longer way down than the steps allow.
 use Prim.Native.Nat.{ℕ, zero, suc}

@@ -1,4 +1,4 @@
--- Document 01, 'Adding': what a rule makes of a tree, and the check of space.
+-- READING, 'Adding': what a rule makes of a tree, and the check of space.
 use Prim.Native.Nat.{ℕ, _+_, _≤_}
 use mathlib.Core.Bool.{cond}
 use mathlib.Core.List.{List, [], _++_}
@@ -58,7 +58,8 @@ abbrev pub bind : {A B : Type 0} → Made A → (A → Used → Made B) → Made
 bind (made a used) f = f a used
 bind (refused x) f = refused x
 
--- "Space is checked just before each of these": for some more records and more text. "of 14 and 15 together, 14"
+-- A change that takes so many records and these bytes of text more, if there is space. Records are asked for first, so
+-- that 14 stands where 15 would be met too.
 abbrev pub charge : {A : Type 0} → Environment → ℕ → List ℕ → Rule A
 charge env records bytes a used =
     cond (ltb (env .lent .records) (used .records + records)) (refused TooFewRecords)

@@ -1,5 +1,5 @@
--- Document 01, 'Settings and the lent buffers' ("records used and text bytes used") and 'Held by the contracts': the
--- counts are those of the tree that the buffers hold. Proved in proofs/Outcomes as `counts`.
+-- READING, 'Records', and docs/CLAIMS.md: the counts of an accepted reading are taken from the tree that its buffers
+-- hold. Proved in proofs/Outcomes as `counts`.
 use Prim.Native.Nat.{ℕ, _+_}
 use mathlib.Core.Path.{_≡_}
 use mathlib.Core.List.{List}

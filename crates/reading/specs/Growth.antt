@@ -1,5 +1,5 @@
--- Demand 3, document 01's 'A ticket that grows': "one claim about what two whole readings answer and leave in their
--- buffers". Proved in proofs/Growth as `growth`.
+-- Demand 3 (docs/CLAIMS.md), READING, 'Growth': the reading of an input and that of a longer one, by their answers and
+-- by what they leave in their buffers, in one statement. Proved in proofs/Growth as `growth`.
 use Prim.Native.Nat.{ℕ, _+_, _≤_, _<_}
 use mathlib.Core.Path.{_≡_}
 use mathlib.Core.List.{List, [], _∷_, _++_}

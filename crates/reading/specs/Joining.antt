@@ -1,5 +1,5 @@
--- "A, `&`, B is A and then B": where the reading of A is accepted, that of A, `&`, B goes on from A's tree with B's
--- takings, at the place past the `&`. Document 01, 'The root' ("At `&` or end"). Proved in proofs/Joining as `joining`.
+-- Behind an input A that is accepted, an `&` does what the end does (READING, 'The root'). So the reading of A, `&`, B
+-- goes on from A's tree with B's takings, at the place past the `&`. Proved in proofs/Joining as `joining`.
 use Prim.Native.Nat.{ℕ, _+_}
 use mathlib.Core.Path.{_≡_}
 use mathlib.Core.List.{List, [], _∷_, _++_}

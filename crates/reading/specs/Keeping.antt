@@ -1,17 +1,17 @@
--- Document 01, 'A ticket that grows': what it is for a tree to keep another. `Keeps w v` is "W keeps V".
+-- READING, 'Growth': what it is for a tree to keep another. `Keeps w v` says that w keeps v.
 use Prim.Native.Nat.{ℕ}
 use mathlib.Core.List.{List}
 use Rattle.key.specs.Keys.{Key}
 use Rattle.reading.specs.Trees.{Tree, uninitialized, null, noValue, string, map, sequence, Entries, noEntries}
 use Rattle.reading.specs.Trees.{entry, Elements, noElements, element}
 
--- "Single values are String, Null and NoValue"
+-- A value of one of these three kinds is single.
 pub data Single : Tree → Type 0 where
   isString : {x : List ℕ} → Single (string x)
   isNull : Single null
   isNoValue : Single noValue
 
--- "W starts with V's elements, equal and in order"
+-- The second list stands at the front of the first.
 pub data StartsWith : Elements → Elements → Type 0 where
   noMore : {ws : Elements} → StartsWith ws noElements
   sameFirst : {v : Tree} {vs ws : Elements} → StartsWith ws vs → StartsWith (element v ws) (element v vs)
@@ -23,13 +23,13 @@ pub data Has (k : Key) (w : Tree) : Entries → Type 0 where
 
 mutual
   pub data Keeps : Tree → Tree → Type 0 where
-    -- "V is single, and W equals V"
+    -- a single value is kept by itself
     equal : {v : Tree} → Single v → Keeps v v
-    -- "or is a Sequence whose first element equals V"
+    -- and by a Sequence that has it in front
     firstElement : {v : Tree} {ws : Elements} → Single v → Keeps (sequence (element v ws)) v
-    -- "both are Sequences, and W starts with V's elements, equal and in order"
+    -- a Sequence is kept by one that may have more behind it
     bothSequences : {vs ws : Elements} → StartsWith ws vs → Keeps (sequence ws) (sequence vs)
-    -- "both are Maps, W has every key of V, Int or String as it was, and its value there keeps V's"
+    -- a Map is kept by one that has each of its keys, with a value there that keeps its own
     bothMaps : {vs ws : Entries} → KeepsEach ws vs → Keeps (map ws) (map vs)
 
   pub data KeepsEach : Entries → Entries → Type 0 where
@@ -38,7 +38,7 @@ mutual
         {k : Key} {v w : Tree} {vs ws : Entries}
         → Has k w ws → Keeps w v → KeepsEach ws vs → KeepsEach ws (entry k v vs)
 
--- "A tree keeps another when its root keeps the other's root": "V is an Uninitialized root", or one of the above.
+-- Of whole trees their roots decide. An undecided root is kept by any; otherwise it is one of the above.
 pub data KeepsTree : Tree → Tree → Type 0 where
   undecidedRoot : {w : Tree} → KeepsTree w uninitialized
   rootKept : {v w : Tree} → Keeps w v → KeepsTree w v

@@ -1,5 +1,5 @@
 -- Where the texts of a tree lie. Every reading keeps to it (proofs/Held); the crates that store the tree cite it in
--- their contracts. Document 01, 'Settings and the lent buffers': a key's and a value's "text offset" and length.
+-- their contracts. READING, 'Records': where the text of a key or a value starts, and how long it is.
 use Prim.Native.Nat.{ℕ}
 use mathlib.Core.Path.{_≡_}
 use mathlib.Core.List.{List, _++_}

@@ -1,5 +1,5 @@
--- Document 01, 'Refused readings': which inputs and settings the refusals before the first byte meet, whatever else is
--- handed in. Proved in proofs/Limits as `limits`.
+-- READING, 'Refusals': which settings, inputs and words meet refusals 1 to 3, whatever else is handed in. Proved in
+-- proofs/Limits as `limits`.
 use Prim.Native.Nat.{ℕ, _≤_, _<_}
 use mathlib.Core.Path.{_≡_}
 use mathlib.Core.List.{List}
@@ -12,15 +12,15 @@ use Rattle.reading.specs.Reading.{unread, outcome, lentBy, parsed, readi
 
 -- Each by its own bound, and what is past all three.
 pub record Limits : Type 0 where
-  -- "Depth above 64", first of all
+  -- too great a depth, which is asked first of all
   pub deep :
       (config : Config) (input words text : List ℕ)
       → maxDepth < config .depth → reading config input words text ≡ unread TooDeep words text
-  -- "Ticket above 65,535 bytes"
+  -- too long an input
   pub long :
       (config : Config) (input words text : List ℕ)
       → config .depth ≤ maxDepth → maxLen < length input → reading config input words text ≡ unread TooLong words text
-  -- "Fewer than 8 words lent"
+  -- too few words for the root's record
   pub few :
       (config : Config) (input words text : List ℕ)
       → config .depth ≤ maxDepth → length input ≤ maxLen → length words < recordWidth

@@ -1,5 +1,5 @@
--- Document 01, 'Tickets to try': those without a star, each under what document 01 says of it; then further ones, for
--- the points where a reader of document 01 goes wrong. (Its two cases of the length are laws: specs/Limits.)
+-- READING, 'Examples': the tickets that aren't in specs/Starred, each under what it shows; then further ones, for the
+-- points that are easily taken wrong. (The limit of the length is a law: specs/Limits.)
 use mathlib.Core.List.{List, [], _∷_}
 use Rattle.config.specs.Defaults.{defaults}
 use Prim.Native.Nat.{_-_}
@@ -9,38 +9,38 @@ use Rattle.reading.specs.Tests.{formAtDepth, AllPass}
 
 abbrev pub others : List Test
 others =
-    -- key `&b`
+    -- an `&` in a bracket belongs to the key
     usual "a[&b]=1" (holds (mapRow noKey 1 0 ∷ mapRow (str 0 1) 2 0 ∷ stringRow (str 1 2) 3 1 0 ∷ []) "a&b1") ∷
-    -- Int
+    -- the greatest Int
     usual "4294967295" (holds (mapRow noKey 1 0 ∷ noValueRow (int 4294967295) 0 ∷ []) "") ∷
-    -- String
+    -- one more, which is a String
     usual "4294967296" (holds (mapRow noKey 1 0 ∷ noValueRow (str 0 10) 0 ∷ []) "4294967296") ∷
-    -- 5 at 4
+    -- the end in a bracket's key
     usual "a[b" (refuses 5 4) ∷
-    -- 4 at 5
+    -- the end after an escaped bracket, which adds 3 to the place
     test formOn (records 6) 12 "a%5B" (refuses 4 5) ∷
-    -- 7 at 7
+    -- `[]` where a String stands
     usual "a=1&a[]=2" (refuses 7 7) ∷
-    -- 8 at 9
+    -- a key where a Sequence stands
     usual "a[]=1&a[b]=2" (refuses 8 9) ∷
-    -- 9 at 7
+    -- a key where a String stands
     usual "a=1&a[b]=2" (refuses 9 7) ∷
-    -- 10 at 6
+    -- a key where Null stands
     usual "a=&a[b]=2" (refuses 10 6) ∷
-    -- 11 at 5
+    -- a byte that may not follow a `]`
     usual "a[b]x" (refuses 11 5) ∷
-    -- 12 at 4
+    -- a bracket behind `[]`
     usual "a[][b]=1" (refuses 12 4) ∷
-    -- 13 at 4
+    -- a byte that may not follow `[]`
     usual "a[]0=1" (refuses 13 4) ∷
     usual "a[]]" (refuses 13 4) ∷
-    -- 2 text bytes, 15 at 5
+    -- a key of two bytes and a value of one: 2 bytes of text are too few
     test defaults (records 6) 2 "ab=c" (refuses 15 5) ∷
-    -- 3 suffice
+    -- and 3 are enough
     test defaults (records 6) 3 "ab=c" (holds (mapRow noKey 1 0 ∷ stringRow (str 0 2) 2 1 0 ∷ []) "abc") ∷
-    -- Depth 64 passes
+    -- the greatest depth
     test (atDepth 64) (records 6) 12 "a" (holds (mapRow noKey 1 0 ∷ noValueRow (str 0 1) 0 ∷ []) "a") ∷
-    -- 65 is 1
+    -- one more, which is refused
     test (atDepth 65) (records 6) 12 "a" (untouched 1) ∷
     -- An `&` past the first byte of a bracket's key; a Null that gets a second value.
     usual "a[b&c=d]=1"
@@ -65,7 +65,7 @@ others =
     -- 14 before 15, and the first met.
     test defaults (records 1) 0 "ab=c" (refuses 14 5) ∷
     test defaults (records 2) 2 "ab=c&d=e" (refuses 15 5) ∷
-    -- An existing key is charged nothing, also where it would not fit; what is not used is zero.
+    -- A key that is there already takes no text, also where none is left for it; the rest of the buffers is zero.
     test defaults (records 4) 2 "ab&%61b"
     (holds (mapRow noKey 1 0 ∷ sequenceRow (str 0 2) 2 0 ∷ noValueRow noKey 3 ∷ noValueRow noKey 0 ∷ []) "ab") ∷
     test defaults (records 4) 2 "a&a"
@@ -108,7 +108,7 @@ others =
     usual "[x]=1&[]=2" (refuses 6 8) ∷
     usual "[]=1&=2&a" (refuses 8 10) ∷
     usual "=1&=2" (holds (sequenceRow noKey 1 0 ∷ stringRow noKey 0 1 2 ∷ stringRow noKey 1 1 0 ∷ []) "12") ∷
-    -- Spare words make no record and are cleared; 7 words are too few; the depth is tested first.
+    -- Words that are left over are no record, and are cleared; 7 words are too few; the depth is tested first.
     test defaults (records 2 - 1) 12 "" (holds (noValueRow noKey 0 ∷ []) "") ∷
     test defaults (records 2 - 1) 12 "a" (refuses 14 2) ∷
     test defaults (records 1 - 1) 12 "a" (untouched 3) ∷

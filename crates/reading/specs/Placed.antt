@@ -1,5 +1,5 @@
--- Document 01, 'Taking a byte': a place counts the bytes taken, and past the end one more. So no reading's place lies
--- further than one past its input. Proved in proofs/Placed as `placed`.
+-- READING, 'Takings': a place counts the bytes taken, and the end as one. So no reading's place lies further than one
+-- past its input. Proved in proofs/Placed as `placed`.
 use Prim.Native.Nat.{ℕ, _+_, _≤_}
 use mathlib.Core.List.{List}
 use lib.ListN.{length}

@@ -1,6 +1,6 @@
 -- Reading back what an accepted reading leaves: the words are those of the tree that they hold, each record and each
--- byte of text is used by one value or key. Document 01, 'Settings and the lent buffers': "Records are numbered as
--- made", "Text is laid end to end as made", "Empty is Null". Proved in proofs/ReadBack as `read-back`.
+-- byte of text is used by one value or key, and no value is an empty String. READING, 'Records' and 'Values'. Proved in
+-- proofs/ReadBack as `read-back`.
 use Prim.Native.Nat.{ℕ, _+_, _*_, _-_}
 use mathlib.Core.Path.{_≡_}
 use mathlib.Core.List.{List, _++_}

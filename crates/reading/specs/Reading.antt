@@ -1,6 +1,5 @@
--- The reading of a whole input: what it answers, and what it leaves in the lent buffers. Document 01, 'Settings and the
--- lent buffers', 'The root' (an empty ticket) and 'Refused readings'. Public contracts equate their results with
--- `reading`.
+-- The reading of a whole input: what it answers, and what it leaves in the lent buffers. READING, 'Records', 'The root'
+-- (an empty ticket) and 'Refusals'. Public contracts equate their results with `reading`.
 use Prim.Native.Nat.{ℕ, _*_, _-_}
 use mathlib.Core.Bool.{cond}
 use mathlib.Core.List.{List, [], _∷_, _++_}
@@ -21,8 +20,7 @@ use Rattle.reading.specs.Scanning.{rootKey}
 use Rattle.reading.specs.Running.{Answer, accepted, refusedAt, run}
 use Rattle.reading.specs.Records.{layout}
 
--- "The result gives number (0 accepted), place (0 if accepted), records used and text bytes used, the last two 0 on
--- refusal." With it, what the words and the text hold then.
+-- The four numbers that a reading answers, and what the words and the text hold then.
 pub record Outcome : Type 0 where
   pub answer : Reading
   pub words : List ℕ
@@ -36,8 +34,7 @@ accepts records bytes = record { number = 0; place = 0; records = records; bytes
 abbrev pub refuses : Refusal → ℕ → Reading
 refuses x place = record { number = code x; place = place; records = 0; bytes = 0 }
 
--- The answer of a call that is refused after its reading was accepted: "place 0", and the counts "as the reading left
--- them".
+-- The answer of a call that is refused after its reading was accepted: its place is 0, and it has the reading's counts.
 abbrev pub refusedAfter : Reading → Refusal → Reading
 refusedAfter a x = record { number = code x; place = 0; records = a .records; bytes = a .bytes }
 
@@ -53,15 +50,15 @@ alone value = at bare value
 abbrev pub lending : Lent → Environment
 lending lent = record { lent = lent }
 
--- `parse` of the source. "Empty ticket: NoValue root. Otherwise the root is Uninitialized and pairs follow." "The place
--- starts at 0."
+-- `parse` of the source. Without any byte the root is NoValue. Otherwise the takings are carried out, from place 0 and
+-- an undecided root.
 abbrev pub parsed : Config → List ℕ → Lent → Answer
 parsed config [] lent = accepted (alone noValue) rootOnly
 parsed config (b ∷ s) lent =
     run config (lending lent) (tokens config (b ∷ s)) 0 (rootKey []) (alone uninitialized) rootOnly
 
--- "Both slices are cleared once refusals 1 to 3 are passed; what an accepted reading doesn't use is zero." The
--- arguments are the lengths of the words and the text that are lent.
+-- Past refusals 1 to 3 nothing is left of what the slices held: behind what is used they are zero, and after a refusal
+-- all is. The arguments are the lengths of the words and the text that are lent.
 abbrev pub outcome : ℕ → ℕ → Answer → Outcome
 outcome words bytes (accepted tree used) =
     record {
@@ -72,7 +69,7 @@ outcome words bytes (accepted tree used) =
 outcome words bytes (refusedAt x place) =
     record { answer = refuses x place; words = replicate words 0; text = replicate bytes 0 }
 
--- Refusals 1 to 3: "place 0, buffers unchanged".
+-- Refusals 1 to 3: no byte was taken, and words and text are as they were.
 abbrev pub unread : Refusal → List ℕ → List ℕ → Outcome
 unread x words text = record { answer = refuses x 0; words = words; text = text }
 
@@ -95,7 +92,7 @@ read config input words text =
     (cond (ltb maxLen (length input)) (met (unread TooLong words text))
     (cond (ltb (length words) recordWidth) (met (unread NoRecord words text)) done))
 
--- "After a reading accepts": what is made of the tree and the outcome then; else what is made of the refusal's outcome.
+-- What is made of the tree and the outcome of an accepted reading, or else of the refusal's outcome.
 abbrev pub after : {A : Type 0} → Read → (Node → Outcome → A) → (Outcome → A) → A
 after (passed tree o) onward refusal = onward tree o
 after (met o) onward refusal = refusal o

@@ -1,4 +1,4 @@
--- Document 01, 'Settings and the lent buffers': the words of the records of a tree.
+-- READING, 'Records': the words of the records of a tree.
 use Prim.Native.Nat.{ℕ, zero, suc}
 use mathlib.Core.Bool.{cond}
 use mathlib.Core.List.{List, [], _∷_, _++_}
@@ -9,7 +9,7 @@ use Rattle.row.specs.Row.{uninitializedKind, mapKind, sequenceKind, stringKind,
 use Rattle.reading.specs.Values.{Label, unkeyed, intKey, stringKey, Row, Value, uninitialized, null, noValue}
 use Rattle.reading.specs.Values.{string, map, sequence, Forest, none, child, Node}
 
--- "0 kind: 0 Uninitialized, 1 Map, 2 Sequence, 3 String, 4 Null, 5 NoValue"
+-- Word 0, by the value's kind.
 abbrev pub kind : Value → ℕ
 kind uninitialized = uninitializedKind
 kind (map children) = mapKind
@@ -18,13 +18,13 @@ kind (string o x) = stringKind
 kind null = nullKind
 kind noValue = noValueKind
 
--- "1 key kind: 0 none, 1 Int, 2 String"
+-- Word 1, by the kind of its key.
 abbrev pub keyKind : Label → ℕ
 keyKind unkeyed = noKeyKind
 keyKind (intKey a) = intKeyKind
 keyKind (stringKey o x) = stringKeyKind
 
--- "2 Int value or key's text offset (0 for an empty key); 3 key length (0 for Int); both 0 for key kind 0"
+-- Words 2 and 3: an Int's value and 0, or where a String key starts and how long it is. Without a key both are 0.
 abbrev pub keyOffset : Label → ℕ
 keyOffset unkeyed = 0
 keyOffset (intKey a) = a
@@ -35,7 +35,7 @@ keyLen unkeyed = 0
 keyLen (intKey a) = 0
 keyLen (stringKey o x) = length x
 
--- "4, 5 value's text offset and length, both 0 unless String"
+-- Words 4 and 5: where the bytes of a String start and how many they are. Any other value has none, and 0 in both.
 abbrev pub textOffset : Value → ℕ
 textOffset uninitialized = 0
 textOffset (map children) = 0
@@ -52,7 +52,7 @@ textLen (string o x) = length x
 textLen null = 0
 textLen noValue = 0
 
--- "6 first child's record number, 7 next sibling's, 0 for none"
+-- Words 6 and 7: the number of the first child, and of the first of the later siblings. Where there is none it is 0.
 abbrev pub first : Forest → ℕ
 first none = 0
 first (child number row value later) = number
@@ -93,7 +93,7 @@ abbrev pub recordsFrom : ℕ → ℕ → Forest → List ℕ
 recordsFrom zero i children = []
 recordsFrom (suc k) i children = recordAmong i children (replicate recordWidth 0) ++ recordsFrom k (suc i) children
 
--- "Record 0 is the root." It has no sibling.
+-- The root has number 0. It has no sibling.
 abbrev pub rooted : Node → Forest
 rooted tree = child 0 (tree .row) (tree .value) none
 

@@ -1,5 +1,5 @@
--- The table carried out: each command on the tree, and the takings one after the other. Document 01, 'Taking a byte'
--- (the place), 'Refused readings' (the first met ends the reading).
+-- The table carried out: each command on the tree, and the takings one after the other. READING, 'Takings' (the place)
+-- and 'Refusals' (a reading ends at the first that it meets).
 use Prim.Native.Nat.{ℕ, _+_}
 use mathlib.Core.List.{List, [], _∷_}
 use lib.ListN.{length}
@@ -33,13 +33,13 @@ pub data Answer : Type 0 where
 pub data Accepts (P : Node → Used → Type 0) : Answer → Type 0 where
   accepts : {tree : Node} {used : Used} → P tree used → Accepts P (accepted tree used)
 
--- The reading goes on with what was made, or ends with the refusal "at the place then reached".
+-- The reading goes on with what was made, or ends with the refusal, at the place where it stands.
 abbrev pub resume : ℕ → Made Node → (Node → Used → Answer) → Answer
 resume place (made tree used) onward = onward tree used
 resume place (refused x) onward = refusedAt x place
 
--- The takings that are left, from any "place" (document 01's term: the number of bytes taken), mode, tree, and what is
--- used. "Each taking adds 1, also past the end": the end is taken at one place more.
+-- The takings that are left, from any place (the number of bytes taken so far), mode, tree, and what is used. The end
+-- is a taking too, at one place more.
 abbrev pub run : Config → Environment → List Token → ℕ → Mode → Node → Used → Answer
 run config env [] place mode tree used = resume (place + 1) (perform env (finish config mode) tree used) accepted
 run config env (token symbol b s ∷ later) place mode tree used =

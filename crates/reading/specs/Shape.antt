@@ -1,5 +1,5 @@
--- The shape of the tree that an accepted reading makes. Document 01, 'Settings and the lent buffers' (numbers, "Map
--- children stand in key order"), 'A ticket that grows' ("single", "undecided"). Proved in proofs/Outcomes as `shape`.
+-- The shape of the tree that an accepted reading makes: READING, 'Records' (record numbers, the order of children) and
+-- 'Growth' (single values). Proved in proofs/Outcomes as `shape`.
 use Prim.Native.Nat.{ℕ, _<_, Ordering·lt}
 use mathlib.Core.Path.{_≡_}
 use mathlib.Core.List.{List}
@@ -22,7 +22,7 @@ Unkeyed unkeyed = Unit
 Unkeyed (intKey a) = ⊥
 Unkeyed (stringKey o x) = ⊥
 
--- "Single values are String, Null and NoValue"
+-- A value of one of these three kinds is single.
 pub data SingleValue : Value → Type 0 where
   isNull : SingleValue null
   isNoValue : SingleValue noValue
@@ -54,7 +54,7 @@ abbrev mutual
   ShapedMap (child number row value later) =
       Keyed (row .label) × Before row later × Shaped value × ShapedMap later
 
--- Nothing is "undecided". (The elements of a Sequence are single values by the above.)
+-- Nothing is undecided. (The elements of a Sequence are single values by the above.)
 abbrev mutual
   pub Decided : Value → Type 0
   Decided uninitialized = ⊥
@@ -77,8 +77,7 @@ DecidedBelow (string o x) = Unit
 DecidedBelow (map children) = DecidedAll children
 DecidedBelow (sequence children) = Unit
 
--- "every child has a greater number than its parent", and all numbers are below the records used. The value's own
--- number is given.
+-- Numbers rise from a parent to its children, and all are below the records used. The value's own number is given.
 abbrev mutual
   pub Rising : ℕ → ℕ → Value → Type 0
   Rising number used uninitialized = Unit

@@ -1,5 +1,5 @@
--- Demand 1: an input of n bytes that is lent n + 1 records and n text bytes is never refused for space. Proved in
--- proofs/Space as `space`.
+-- Demand 1 (docs/CLAIMS.md), READING, 'Refusals': n + 1 records and n bytes of text are enough for any input of n
+-- bytes. Proved in proofs/Space as `space`.
 use Prim.Native.Nat.{ℕ, _+_, _≤_}
 use mathlib.Core.Path.{_≡_}
 use mathlib.Core.List.{List}

@@ -1,5 +1,5 @@
--- Document 01, 'Taking a byte (`next`)'. A taking doesn't depend on what was taken before, so an input is the list of
--- its takings.
+-- READING, 'Takings' (`next` of the source). A taking doesn't depend on what was taken before, so an input is the list
+-- of its takings.
 use Prim.Native.Nat.{ℕ}
 use mathlib.Core.Bool.{cond, _&&_}
 use mathlib.Core.List.{List, [], _∷_}
@@ -21,11 +21,11 @@ symbolOf b =
     cond (eqb b byte.ampersand) ampersand
     (cond (eqb b byte.equals) equals (cond (eqb b byte.opening) opening (cond (eqb b byte.closing) closing other)))
 
--- "Each taking adds 1"
+-- A taking of one byte.
 abbrev pub byteToken : ℕ → Token
 byteToken b = token (symbolOf b) b []
 
--- Whether three bytes are "exactly `%5B` or `%5D` (capitals)".
+-- Whether three bytes are an escaped `[`, an escaped `]` or neither. With a small letter they are neither.
 pub data Escape : Type 0 where
   opens closes neither : Escape
 
@@ -44,7 +44,7 @@ abbrev pub byteTokens : List ℕ → List Token
 byteTokens [] = []
 byteTokens (b ∷ s) = byteToken b ∷ byteTokens s
 
--- "With the flag on, exactly `%5B` or `%5D` (capitals) is taken as one `[` or `]` and adds 3."
+-- With the flag on: three bytes that are an escaped bracket are one taking.
 abbrev pub formTokens : List ℕ → List Token
 formTokens [] = []
 formTokens (b ∷ []) = byteToken b ∷ []

@@ -1,5 +1,4 @@
--- Tests of the reading: an input with its settings and lent buffers, and everything that document 01 says of its
--- outcome.
+-- Tests of the reading: an input with its settings and lent buffers, and its whole outcome, as READING has it.
 use Prim.Native.Nat.{ℕ, _*_, _-_}
 use Prim.Native.String.{String}
 use mathlib.Core.Path.{_≡_}
@@ -77,7 +76,7 @@ formAtDepth depth = settings depth true false
 abbrev pub formOn : Config
 formOn = formAtDepth 5
 
--- "Depth 5, flag off unless said." Lent are 6 records and 12 bytes of text unless said.
+-- What a test has where it names nothing else: the default settings, 6 records and 12 bytes of text.
 abbrev pub usual : String → Expected → Test
 usual input expects = test defaults (records 6) 12 input expects
 

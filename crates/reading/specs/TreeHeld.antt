@@ -1,5 +1,5 @@
--- Document 01, 'A ticket that grows': what an accepted reading leaves in records and text is the tree that the sections
--- from 'Taking a byte' to 'Adding' make, with its record numbers and offsets. Proved in proofs/Outcomes as `tree-held`.
+-- READING, 'Growth': words and text hold, after an accepted reading, the very tree that its takings made (READING,
+-- 'Takings' to 'Adding'), with its record numbers and offsets. Proved in proofs/Outcomes as `tree-held`.
 use Prim.Native.Nat.{ℕ}
 use mathlib.Core.Path.{_≡_}
 use mathlib.Core.List.{List}

@@ -1,5 +1,5 @@
--- Document 01, 'A ticket that grows': a ticket's tree. "each value's kind, a String's bytes, a Map's keys with a value
--- each, a Sequence's elements in order. Nothing else in a record is part of it."
+-- READING, 'Growth': a ticket's tree. It says what the values are and under which keys or in which order they stand,
+-- but nothing of where they are stored.
 use Prim.Native.Nat.{ℕ}
 use mathlib.Core.List.{List}
 use Rattle.key.specs.Keys.{Key}

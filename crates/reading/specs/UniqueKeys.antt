@@ -1,5 +1,5 @@
--- Document 01, 'A ticket that grows': "its value there" is one value. No map of the tree that an accepted reading
--- leaves has a key twice. Proved in proofs/Unique as `unique-keys`.
+-- READING, 'Growth', speaks of the value that a Map has under a key. There is only one: no map of the tree that an
+-- accepted reading leaves has a key twice. Proved in proofs/Unique as `unique-keys`.
 use mathlib.Core.Path.{_≡_}
 use mathlib.Core.List.{List}
 use Prim.Native.Nat.{ℕ}

@@ -1,6 +1,5 @@
--- Document 01, 'Settings and the lent buffers': the tree that a reading makes, as its records have it. Every value
--- stands with its row, and every one but the root, which is record 0, with its record number; every text with its
--- offset.
+-- READING, 'Records': the tree that a reading makes, as its records have it. Every value stands with its row, and every
+-- one but the root, which is record 0, with its record number; every text with its offset.
 use Prim.Native.Nat.{ℕ}
 use mathlib.Core.List.{List, []}
 use Rattle.key.specs.Keys.{Key, int, str}
@@ -30,7 +29,7 @@ abbrev pub bare : Row
 bare = record { label = unkeyed }
 
 mutual
-  -- `ParsedValue` of the source; a String with its text offset. Document 01 also calls Uninitialized "undecided".
+  -- `ParsedValue` of the source; a String with its text offset. An Uninitialized value is called undecided too.
   pub data Value : Type 0 where
     uninitialized null noValue : Value
     string : ℕ → List ℕ → Value

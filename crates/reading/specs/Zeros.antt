@@ -1,4 +1,4 @@
--- Document 02, R-5: inputs read with the key setting off, as it is in the defaults, and on. Decided together
+-- READING, 'Keys': inputs read with the key setting off, as it is in the defaults, and on. Decided together
 -- (proofs/Tests).
 use Prim.Native.String.{String}
 use mathlib.Core.Bool.{true, false}
@@ -13,7 +13,7 @@ on input expects = test zerosOn (records 6) 12 input expects
 
 abbrev pub zeros : List Test
 zeros =
-    -- "a digits key with a needless leading zero is a String. Plain 0 remains Int."
+    -- Off, zeros in front don't count. On, digits that have them are a String, but a zero alone is still an Int.
     usual "0" (holds (mapRow noKey 1 0 ∷ noValueRow (int 0) 0 ∷ []) "") ∷
     on "0" (holds (mapRow noKey 1 0 ∷ noValueRow (int 0) 0 ∷ []) "") ∷
     on "0=v" (holds (mapRow noKey 1 0 ∷ stringRow (int 0) 0 1 0 ∷ []) "v") ∷
@@ -32,7 +32,7 @@ zeros =
     test zerosOn (records 2) 1 "07" (refuses 15 3) ∷
     test zerosOn (records 2) 2 "07" (holds (mapRow noKey 1 0 ∷ noValueRow (str 0 2) 0 ∷ []) "07") ∷
     test zerosOn (records 2) 0 "0" (holds (mapRow noKey 1 0 ∷ noValueRow (int 0) 0 ∷ []) "") ∷
-    -- "7, 07 and 007 ... are different folders": put, entered and added to.
+    -- 7, 07 and 007 are one key with the setting off, and three with it on: put, entered and added to.
     usual "7=a&07=b&007=c"
     (holds (mapRow noKey 1 0 ∷ sequenceRow (int 7) 2 0 ∷ stringRow noKey 0 1 3 ∷ stringRow noKey 1 1 4 ∷
     stringRow noKey 2 1 0 ∷ []) "abc") ∷

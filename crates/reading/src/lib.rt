@@ -1,4 +1,4 @@
-// What a query string means: document 01's reading as definitions (specs/) and the theorems over them (proofs/). It has
+// What a query string means: docs/READING.md as definitions (specs/) and the theorems over them (proofs/). It has
 // no code but the struct of a reading's answer, what a call makes of it that is refused later, and the kinds of a
 // single value. The headline is specs/Reading; what is proved of it stands in specs/Answers, Limits, Placed, TreeHeld,
 // ReadBack, Counts, Shape, UniqueKeys, Space, Fitting, Joining, Growth, Starred and Others, and of what growth rules
@@ -10,8 +10,8 @@ ghost use Rattle.reading.specs.Reading.{refusedAfter};
 use refusals::Refusal;
 use refusals::code;
 
-// Document 01's result of a reading: number (0 accepted), place (0 if accepted), records used and text bytes used, the
-// last two 0 on refusal. C gets it as it stands.
+// What a reading answers (READING, 'Records'): its number, which is 0 if it is accepted; the place of a refusal, else
+// 0; and how many records and bytes of text it uses, none if it is refused. C gets it as it stands.
 #[repr(C)]
 pub struct Reading {
     pub number: u32,
@@ -34,7 +34,7 @@ impl Reading {
     }
 }
 
-// The kind of a single value (document 01's term) that is added to a tree; a String is a raw segment, which stands
+// The kind of a single value (READING, 'Growth') that is added to a tree; a String is a raw segment, which stands
 // beside it, decoded.
 pub enum LeafKind {
     Null,

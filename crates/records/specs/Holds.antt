@@ -1,5 +1,5 @@
--- Document 01, 'Settings and the lent buffers': the words hold a forest of records, `used` of them, with keys in the
--- text. The store's invariant. It speaks of the records used, and the words behind them are free.
+-- READING, 'Records': the words hold a forest of records, `used` of them, with keys in the text. The store's invariant.
+-- It speaks of the records used, and the words behind them are free.
 use Prim.Native.Nat.{ℕ, _<_, _≤_}
 use mathlib.Core.Path.{_≡_}
 use mathlib.Core.List.{List}
@@ -25,7 +25,7 @@ Represents ws (node n r c s) = Row ws n r (first c) (first s) × Represents ws c
 abbrev pub Above : ℕ → Nodes → Type 0
 Above n f = (m : ℕ) → 0 < count m f → n < m
 
--- "every child has a greater number than its parent"
+-- The numbers of all that is below a node are above its own.
 abbrev pub Rising : Nodes → Type 0
 Rising nil = Unit {0}
 Rising (node n r c s) = Above n c × Rising c × Rising s

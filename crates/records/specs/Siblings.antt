@@ -51,7 +51,7 @@ pub record ChainEnds (ws : List ℕ) (used n : ℕ) : Type 0 where
   pub within : Within 0 used (chain ws (recordCount ws) n)
   pub few : length (chain ws (recordCount ws) n) < recordCount ws
 
--- Of the records used: "every child has a greater number than its parent", and each list of children ends. Nothing is
+-- Of the records used: the numbers of a record's children are above its own, and each list of children ends. Nothing is
 -- said of the other words.
 pub record Linked (ws : List ℕ) (used : ℕ) : Type 0 where
   pub room : used ≤ recordCount ws

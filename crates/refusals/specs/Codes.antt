@@ -1,4 +1,4 @@
--- Document 01, 'Refused readings, in checking order' and 'Field reads', and document 02: the number of each refusal.
+-- READING, 'Refusals': the number of each refusal.
 use Prim.Native.Nat.{ℕ}
 use Rattle.refusals.specs.declared.Refusal.{Refusal}
 use Rattle.refusals.specs.declared.Refusal.the-variants.{TooDeep, TooLong, NoRecord}
@@ -12,41 +12,41 @@ use Rattle.refusals.specs.declared.Refusal.the-variants.{SeveralValues, 
 use Rattle.refusals.specs.declared.Refusal.the-variants.{ShortPage, WrongEnds, ShortAnswers, ShortOutput}
 
 abbrev pub code : Refusal → ℕ
--- "Depth above 64", "Ticket above 65,535 bytes", "Fewer than 8 words lent"
+-- Before the first byte: the depth, the length of the input, and the words for the root's record.
 code TooDeep = 1
 code TooLong = 2
 code NoRecord = 3
--- "End straight after an open bracket.", "End before the closing bracket."
+-- The input ends in a bracket: where a key would start, or in the key.
 code EndAfterOpening = 4
 code EndBeforeClosing = 5
--- "`[]` on a Map.", "`[]` on String, Null or NoValue."
+-- A Sequence is needed where a Map stands, or a single value.
 code SequenceOnMap = 6
 code SequenceOnSingle = 7
--- "A map needed on a Sequence.", "on a String.", "on Null or NoValue."
+-- A map is needed where a Sequence stands, or a String, or else Null or NoValue.
 code MapOnSequence = 8
 code MapOnString = 9
 code MapOnNull = 10
--- "Another byte after `]`.", "`[` after `[]`.", "Another byte after `[]`."
+-- A byte that may not follow: the `]` of a key, or `[]`, where a `[` has a number of its own.
 code ByteAfterKey = 11
 code OpeningAfterBrackets = 12
 code ByteAfterBrackets = 13
--- "Too few records.", "Too little text."
+-- No space for a record, or for text.
 code TooFewRecords = 14
 code TooLittleText = 15
--- "root Sequence or Uninitialized", "no such field", "field of the wrong kind"
+-- Of a field: a root that is a Sequence or undecided, a name that isn't there, a kind that isn't as asked for.
 code WrongRoot = 16
 code NoSuchField = 17
 code WrongKind = 18
--- "several values", "index missing", "not UTF-8"
+-- More values than a text has, an index that a list lacks, bytes that aren't UTF-8.
 code SeveralValues = 19
 code MissingIndex = 20
 code NotUtf8 = 21
--- "slice below two words an element"
+-- Too few words for the elements of a list.
 code ShortSlice = 22
--- document 02, R-1: "the lent page is shorter than 73 bytes a value"
+-- READING, 'The sheet': a page that has no room for its lines.
 code ShortPage = 23
--- R-2: "ends that fall, or pass the names", "fewer than three answer words a name"
+-- READING, 'Many names': an end below the one before it or past the names, too few words for the answers.
 code WrongEnds = 24
 code ShortAnswers = 25
--- R-4: "those bytes are more than the output holds or than the length limit"
+-- READING, 'The writer': more bytes than there is room for, or than an input may have.
 code ShortOutput = 26

@@ -4,47 +4,47 @@
 ghost use mathlib.Core.Path.{_≡_};
 ghost use Rattle.refusals.specs.Codes.{code};
 
-// Document 01, 'Refused readings, in checking order' and 'Field reads', and document 02's, in the order of their
-// numbers.
+// READING, 'Refusals', in the order of their numbers. 24 and 25 are asked before 1, and 16 to 23 and 26 once the
+// reading is accepted.
 pub enum Refusal {
     // 1 to 3, before the first byte: the depth above its limit, the input above its, fewer words lent than a record
     // has.
     TooDeep,
     TooLong,
     NoRecord,
-    // 4 and 5: the end straight after an open bracket, the end before the closing bracket.
+    // 4 and 5: the input ends right behind a `[`, or before the `]` of a key.
     EndAfterOpening,
     EndBeforeClosing,
-    // 6 and 7: `[]` on a Map, and on a String, Null or NoValue.
+    // 6 and 7: `[]` where a Map stands, or a single value.
     SequenceOnMap,
     SequenceOnSingle,
-    // 8 to 10: a map needed on a Sequence, on a String, on Null or NoValue.
+    // 8 to 10: a map is needed where a Sequence stands, or a String, or else Null or NoValue.
     MapOnSequence,
     MapOnString,
     MapOnNull,
-    // 11 to 13: another byte after `]`, `[` after `[]`, another byte after `[]`.
+    // 11 to 13: a byte that may not follow the `]` of a key, a `[` behind `[]`, a byte that may not follow `[]`.
     ByteAfterKey,
     OpeningAfterBrackets,
     ByteAfterBrackets,
-    // 14 and 15: too few records, too little text.
+    // 14 and 15: no space for a record, or for text.
     TooFewRecords,
     TooLittleText,
-    // 16 to 18, of a field: a root that is a Sequence or Uninitialized, no such field, a field of the wrong kind.
+    // 16 to 18, of a field: the root is a Sequence or Uninitialized, the name isn't there, the kind isn't as asked for.
     WrongRoot,
     NoSuchField,
     WrongKind,
-    // 19 to 21: several values, an index that is missing, bytes that are not UTF-8.
+    // 19 to 21: more values than the one that a text has, an index that a list lacks, bytes that aren't UTF-8.
     SeveralValues,
     MissingIndex,
     NotUtf8,
-    // 22: a slice below two words an element.
+    // 22: a list that is lent fewer than two words for each element.
     ShortSlice,
-    // 23, of a sheet: a page below a line's bytes a value.
+    // 23, of a sheet: a page that has no room for a line for each value.
     ShortPage,
-    // 24 and 25, of a list of names, before 1: ends that fall or pass the names, fewer than three words an answer.
+    // 24 and 25, of many names: an end below the one before it or past the names, fewer than three words an answer.
     WrongEnds,
     ShortAnswers,
-    // 26, of a written input: more bytes than the output holds or than the length limit.
+    // 26, of a writing: more bytes than there is room for, or than an input may have.
     ShortOutput,
 }
 

@@ -70,7 +70,7 @@ digits-le b s e =
     let d = digit-is b (p .0) in
     omega (arith, digits-more (0 * 10 + (b - 48)) s (p .1), decimal-small (0 * 10 + (b - 48)) (omega (arith, d .1)))
 
--- The bytes that a key takes where so many are for brackets (none at the root, else two): "an empty one not at all".
+-- The bytes that a key takes where so many are for brackets (none at the root, else two). An empty key takes none.
 abbrev pub cost : Config → ℕ → Key → ℕ
 cost config brackets (int a) = length (decimal a) + brackets
 cost config brackets (str []) = 0

@@ -1,5 +1,5 @@
--- Document 02, R-4: what is written of the tree of any accepted reading, "read at the same depth and flag with enough
--- records and text, gives that tree again". Proved in proofs/RoundTrip as `round-trip`.
+-- READING, 'The writer': what is written of the tree of any accepted reading comes back as that tree, if it is read at
+-- the same settings and as much is lent as the first reading used. Proved in proofs/RoundTrip as `round-trip`.
 use Prim.Native.Nat.{ℕ, _≤_}
 use mathlib.Core.Path.{_≡_}
 use mathlib.Core.List.{List}

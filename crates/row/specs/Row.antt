@@ -1,42 +1,41 @@
--- Document 01, 'Settings and the lent buffers': a record's row, each number of it named once. The code has the same
--- names as constants.
+-- READING, 'Records': a record's row, each number of it named once. The code has the same names as constants.
 use Prim.Native.Nat.{ℕ}
 
--- "A record is 8 words"
+-- A record's width in words.
 abbrev pub recordWidth : ℕ
 recordWidth = 8
 
--- "0 kind"
+-- The word of the value's kind.
 abbrev pub kindWord : ℕ
 kindWord = 0
 
--- "1 key kind"
+-- The one of the key's kind.
 abbrev pub keyKindWord : ℕ
 keyKindWord = 1
 
--- "2 Int value or key's text offset (0 for an empty key)"
+-- The one of an Int's value, or of where a String key starts in the text.
 abbrev pub keyWord : ℕ
 keyWord = 2
 
--- "3 key length (0 for Int)"
+-- The one of a String key's length.
 abbrev pub keyLenWord : ℕ
 keyLenWord = 3
 
--- "4, 5 value's text offset and length"
+-- The ones of where a String's bytes start in the text, and of how many they are.
 abbrev pub textWord : ℕ
 textWord = 4
 
 abbrev pub textLenWord : ℕ
 textLenWord = 5
 
--- "6 first child's record number, 7 next sibling's, 0 for none"
+-- The ones that lead to the first child, and to the next sibling.
 abbrev pub childWord : ℕ
 childWord = 6
 
 abbrev pub nextWord : ℕ
 nextWord = 7
 
--- Kinds: "0 Uninitialized, 1 Map, 2 Sequence, 3 String, 4 Null, 5 NoValue"
+-- The kinds of a value.
 abbrev pub uninitializedKind : ℕ
 uninitializedKind = 0
 
@@ -55,7 +54,7 @@ nullKind = 4
 abbrev pub noValueKind : ℕ
 noValueKind = 5
 
--- Key kinds: "0 none, 1 Int, 2 String"
+-- The kinds of a key, and that of a value without one.
 abbrev pub noKeyKind : ℕ
 noKeyKind = 0
 

@@ -1,11 +1,11 @@
--- Document 01, 'Settings and the lent buffers': the lent words as records, and the lent text. `word` and `withWord`
--- stay shut: proofs use their laws (proofs/Words).
+-- READING, 'Records': the lent words as records, and the lent text. `word` and `withWord` stay shut: proofs use their
+-- laws (proofs/Words).
 use Prim.Native.Nat.{ℕ, _+_, _*_, _/_}
 use mathlib.Core.List.{List}
 use lib.ListN.{length, getD, set, take, drop}
 use Rattle.row.specs.Row.{recordWidth}
 
--- How many records the words make: "spare words at the end make no record".
+-- How many whole records the words make.
 abbrev pub recordCount : List ℕ → ℕ
 recordCount ws = length ws / recordWidth
 

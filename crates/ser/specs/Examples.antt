@@ -24,52 +24,51 @@ becomesAt config input output = record { config = config; input = input; output 
 
 abbrev pub examples : List Example
 examples =
-    -- "One pair is written a single value, one '&' between pairs, in listing order"
+    -- a pair for each single value, with '&' in between, in the order of the listing
     becomes "b=2&a=1" "a=1&b=2" ∷
     becomes "b[y]=1&a=2&b[x]=3" "a=2&b[x]=3&b[y]=1" ∷
     becomes "a&&10=x&9=y" "9=y&10=x&a" ∷
-    -- "but an empty key last in its map": below the root, at the root, below two Maps
+    -- the empty key behind the others of its Map: below the root, at the root, below two Maps
     becomes "a[b]=1&a=2&0=x" "0=x&a[b]=1&a=2" ∷
     becomes "a=1&=2&7=3" "7=3&a=1&=2" ∷
     becomes "a[b][c]=1&a[b]=2&a=3" "a[b][c]=1&a[b]=2&a=3" ∷
     becomes "a[b]&a" "a[b]&a" ∷
-    -- "Root keys stand bare, deeper ones in brackets, an empty one not at all."
+    -- a root key bare, and those below it in brackets
     becomes "[a][b][0]=1" "a[b][0]=1" ∷
-    -- "A key is at the depth if it isn't empty and its listed level is the depth plus 2." It "keeps its first '[' and
-    -- gets no brackets".
+    -- a key at the depth, without brackets and with its first '[' as it is; and keys with '[' in them at lesser levels
     becomesAt (atDepth 1) "a[b][c]=v" "a[b][c%5d=v" ∷
     becomesAt (atDepth 1) "[a][b]=1" "a[%5bb%5d]=1" ∷
     becomesAt (atDepth 1) "a[b][==&a[b][&c" "a[b][%26c&a[b][%3d=" ∷
     becomesAt (atDepth 2) "[a][b][c]=1" "a[b][%5bc%5d]=1" ∷
     becomesAt (atDepth 0) "a[b]=1" "a%5bb%5d=1" ∷
-    -- "A sequence's elements take `[]`"
+    -- elements with `[]`
     becomes "a=1&a=&a" "a[]=1&a[]=&a[]" ∷
     becomes "a[b][]=1" "a[b][]=1" ∷
-    -- "at depth 0, under a key at the depth and under an empty key they repeat the key"
+    -- elements that repeat the key: at depth 0, at the depth (and below it with `[]`), and under an empty key
     becomesAt (atDepth 0) "a=1&a&a=" "a=1&a&a=" ∷
     becomesAt (atDepth 1) "a[b][c=1&a[b][c=2" "a[b][c=1&a[b][c=2" ∷
     becomesAt (atDepth 1) "a[b][]=1&a[b][]=2" "a[b][]=1&a[b][]=2" ∷
     becomes "a[b]=1&a=2&a=3" "a[b]=1&a=2&a=3" ∷
     becomes "a=1&=2&=3" "a=1&=2&=3" ∷
-    -- "Space becomes '+'. The bytes % + & = [ ] become lower-case hex escapes", in keys and in values
+    -- a space as '+', and each reserved byte as an escape, in keys and in values
     becomes "a+b=c+d" "a+b=c+d" ∷
     becomes "%25%2B%26%3D%5B%5D=1" "%25%2b%26%3d%5b%5d=1" ∷
     becomes "a=%%2B%26=[]" "a=%25%252B%26%3d%5b%5d" ∷
     becomesAt formOn "a%5bb%5d=%5B" "a%5bb%5d=%5b" ∷
-    -- "as does the first digit of a String key that would read as Int"
+    -- a String key of digits, whose first is escaped if they would be read as an Int
     becomes "%31=a&1=b" "1=b&%31=a" ∷
     becomes "a[1%32]=1" "a[%312]=1" ∷
     becomes "4294967296=a" "4294967296=a" ∷
     becomes "007=a" "7=a" ∷
     becomes "%3007=a" "%3007=a" ∷
-    -- R-5: "under the setting `007` as a String needs no escape"
+    -- the same with the key setting on: digits with a needless zero are no Int, and need no escape
     becomesAt zerosOn "007=a&00=b" "00=b&007=a" ∷
     becomesAt zerosOn "%3007=a&a[%300]=b" "007=a&a[00]=b" ∷
     becomesAt zerosOn "7=a&%37=b&07=c" "7=a&07=c&%37=b" ∷
     becomesAt zerosOn "0=a&a[%30]=b" "0=a&a[%30]=b" ∷
-    -- "Other bytes are written raw."
+    -- any other byte as it is
     becomes "a/?~=%2F%7E" "a/?~=/~" ∷
-    -- "An Uninitialized root is a lone '&'", and the other roots
+    -- an Uninitialized root, and the other roots
     becomes "&&" "&" ∷
     becomes "" "" ∷
     becomes "=" "=" ∷

@@ -1,6 +1,6 @@
 -- What the definition is held against: each line has an input, and what would be written of it without one sentence of
--- R-4. Read at the same settings this is refused or gives another tree, so it doesn't come back. Decided together in
--- proofs/Examples.
+-- READING, 'The writer'. Read at the same settings this is refused or gives another tree, so it doesn't come back.
+-- Decided together in proofs/Examples.
 use Prim.Native.Nat.{Ordering, Ordering·lt, Ordering·eq, Ordering·gt}
 use Prim.Native.String.{String}
 use mathlib.Core.Path.{_≡_}

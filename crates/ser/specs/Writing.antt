@@ -1,4 +1,4 @@
--- Document 02, R-4: the input that is written of a tree.
+-- READING, 'The writer': the input that is written of a tree.
 use Prim.Native.Nat.{ℕ, _+_}
 use mathlib.Core.Bool.{Bool, true, cond, _||_}
 use mathlib.Core.List.{List, [], _∷_, _++_}
@@ -10,28 +10,29 @@ use Rattle.reading.specs.Trees.{Tree, uninitialized, null, noValue, string, map
 use Rattle.reading.specs.Trees.{Elements, noElements, element}
 use Rattle.ser.specs.Escaping.{escaped, escapedKey, escapedAtDepth}
 
--- Where a value stands: the key that is written in front of it, its listed level ("distance from the root"), and
--- whether the elements of a Sequence there repeat that key.
+-- Where a value stands: the key that is written in front of it, its listed level, and whether the elements of a
+-- Sequence there repeat that key.
 pub record Position : Type 0 where
   pub key : List ℕ
   pub level : ℕ
   pub repeats : Bool
 
--- "at depth 0 … they repeat the key"
+-- The root has no key. At depth 0, where `[` opens nothing, elements repeat the key everywhere.
 abbrev pub atRoot : Config → Position
 atRoot config = record { key = []; level = 0; repeats = eqb (config .depth) 0 }
 
--- "A key is at the depth if it isn't empty and its listed level is the depth plus 2."
+-- Whether a key that isn't empty is at the depth, by its listed level: behind a root key, a bracket's key has the
+-- bracket's level and 2 more.
 abbrev pub isAtDepth : Config → ℕ → Bool
 isAtDepth config level = eqb level (config .depth + 2)
 
--- "Root keys stand bare, deeper ones in brackets", and "a key at the depth … gets no brackets".
+-- A key as it is written at a level. Neither a root key nor one at the depth has brackets around it, and all others do.
 abbrev pub keyAt : Config → ℕ → Key → List ℕ
 keyAt config level key =
     cond (eqb level 1) (escapedKey config key)
     (cond (isAtDepth config level) (escapedAtDepth key) (opening ∷ escapedKey config key ++ (closing ∷ [])))
 
--- "at depth 0, under a key at the depth and under an empty key they repeat the key"
+-- Whether the elements under a key of a level repeat it, since `[]` would be bytes of the key there.
 abbrev pub repeatsAt : Config → ℕ → Bool
 repeatsAt config level = eqb (config .depth) 0 || isAtDepth config level
 
@@ -41,11 +42,11 @@ underNamed config p key =
     let level = p .level + 1 in
     record { key = p .key ++ keyAt config level key; level = level; repeats = repeatsAt config level }
 
--- "an empty one not at all"
+-- Under the empty key, of which nothing is written. Elements repeat the key, since `[]` would be its Map's and refused.
 abbrev pub underEmpty : Position → Position
 underEmpty p = record { key = p .key; level = p .level + 1; repeats = true }
 
--- "A sequence's elements take `[]`".
+-- Where the elements of a Sequence stand: behind `[]`, unless they repeat the key.
 abbrev pub inSequence : Position → Position
 inSequence p =
     record {
@@ -54,8 +55,9 @@ inSequence p =
       repeats = p .repeats;
     }
 
--- "One pair is written a single value, … in listing order, but an empty key last in its map." Null is an empty value,
--- NoValue a key alone. Nothing below the root is Uninitialized (reading's specs/Shape).
+-- The pairs of a value: one for each single value in it, in listing order but for a Map's empty key, which comes behind
+-- its others. Null is an empty value, NoValue a key alone. Nothing below the root is Uninitialized (reading's
+-- specs/Shape).
 unfoldable mutual
   pub pairs : Config → Position → Tree → List (List ℕ)
   pairs config p uninitialized = []
@@ -86,14 +88,14 @@ unfoldable mutual
   elementPairs config p noElements = []
   elementPairs config p (element value xs) = pairs config p value ++ elementPairs config p xs
 
--- "one '&' between pairs": one pair more behind what is written so far, if that is anything. (Of a tree that a reading
--- makes, no pair is empty but the one of a NoValue root.)
+-- Pairs with '&' in between: one pair more behind what is written so far, if that is anything. (Of a tree that a
+-- reading makes, no pair is empty but the one of a NoValue root.)
 abbrev pub joined : List ℕ → List (List ℕ) → List ℕ
 joined so-far [] = so-far
 joined [] (pair ∷ more) = joined pair more
 joined (b ∷ so-far) (pair ∷ more) = joined ((b ∷ so-far) ++ (ampersand ∷ pair)) more
 
--- "An Uninitialized root is a lone '&'."
+-- A whole tree. For an Uninitialized root '&' is written, since of no bytes at all the root is NoValue.
 abbrev pub written : Config → Tree → List ℕ
 written config uninitialized = ampersand ∷ []
 written config null = joined [] (pairs config (atRoot config) null)

@@ -1,4 +1,4 @@
--- Document 02, R-1: the columns of the sheet, counted from 1. They stand here and nowhere else; the code has their
+-- READING, 'The sheet': the columns of the sheet, counted from 1. They stand here and nowhere else; the code has their
 -- widths as constants.
 use Prim.Native.Nat.{ℕ, _+_, _-_}
 use mathlib.Core.List.{List}
@@ -11,8 +11,7 @@ pub record Columns : Type 0 where
 abbrev pub columns : ℕ → ℕ → Columns
 columns first last = record { first = first; last = last }
 
--- "Columns 1 to 3 hold the level, 5 to 9 a String's length". "Columns 11 to 14 hold the first four letters of the kind
--- as listed, 16 to 40 the key (Int in decimal), 42 to 72 the text."
+-- The columns of each item of a line. One column is left free behind each but the last.
 abbrev pub levelColumns : Columns
 levelColumns = columns 1 3
 
@@ -36,6 +35,6 @@ width c = c .last + 1 - c .first
 abbrev pub between : Columns → List ℕ → List ℕ
 between c line = take (width c) (drop (c .first - 1) line)
 
--- "each exactly 72 characters and a newline"
+-- The bytes of a line: one for each column, and a newline.
 abbrev pub lineBytes : ℕ
 lineBytes = 73

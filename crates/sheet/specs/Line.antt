@@ -1,4 +1,4 @@
--- Document 02, R-1: a line of the sheet, column by column.
+-- READING, 'The sheet': a line of the sheet, column by column.
 use Prim.Native.Nat.{ℕ, _-_}
 use mathlib.Core.Bool.{cond}
 use mathlib.Core.Option.{Option, none, some}
@@ -12,11 +12,11 @@ use Rattle.output.specs.Numbers.{decimal}
 use Rattle.listed.specs.Listed.{Listed}
 use Rattle.sheet.specs.Columns.{levelColumns, lengthColumns, kindColumns, keyColumns, textColumns, width}
 
--- "Unused columns are spaces."
+-- So many columns in which nothing stands.
 abbrev pub blanks : ℕ → List ℕ
 blanks n = replicate n byte.space
 
--- "right-aligned", in so many columns. What is too long would run over them, and nothing is (specs/Widths).
+-- At the right of so many columns. What is too long would run over them, and nothing is (specs/Widths).
 unfoldable pub rightAligned : ℕ → List ℕ → List ℕ
 rightAligned wide s = blanks (wide - length s) ++ s
 
@@ -24,7 +24,7 @@ rightAligned wide s = blanks (wide - length s) ++ s
 unfoldable pub letters : ℕ → List ℕ → List ℕ
 letters wide s = take wide s ++ blanks (wide - length s)
 
--- "A byte outside 33 to 126 shows as a full stop."
+-- The first and the last of the bytes that show as they are. A full stop stands for any other.
 abbrev pub firstVisible : ℕ
 firstVisible = 33
 
@@ -34,24 +34,24 @@ lastVisible = 126
 unfoldable pub visible : ℕ → ℕ
 visible b = cond (leb firstVisible b) (cond (leb b lastVisible) b byte.fullStop) byte.fullStop
 
--- Bytes from the left. "A key or text too long ends in '>' in its last column."
+-- Bytes at the left of so many columns. Where they are too many, '>' in the last column tells that some are left out.
 unfoldable pub fitted : ℕ → List ℕ → List ℕ
 fitted wide s =
     cond (leb (length s) wide) (map visible s ++ blanks (wide - length s))
     (map visible (take (wide - 1) s) ++ (byte.greater ∷ []))
 
--- "a String's length": that of its bytes. No other value has one.
+-- How many bytes a String has. For any other value nothing is shown.
 abbrev pub lengthItem : Option (List ℕ) → List ℕ
 lengthItem none = []
 lengthItem (some x) = decimal (length x)
 
--- "the key (Int in decimal)": no key and the empty key are both blank.
+-- A key: an Int in decimal, a String's bytes. No key and the empty key are both blank.
 abbrev pub keyItem : Option Key → List ℕ
 keyItem none = []
 keyItem (some (int n)) = decimal n
 keyItem (some (str x)) = x
 
--- "the text"
+-- A String's bytes. For any other value nothing is shown.
 abbrev pub textItem : Option (List ℕ) → List ℕ
 textItem none = []
 textItem (some x) = x

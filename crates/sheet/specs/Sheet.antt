@@ -1,4 +1,4 @@
--- Document 02, R-1: "the tree printed on a sheet: one line a value in listing order".
+-- READING, 'The sheet': the sheet of a tree, which has a line for each value in the order of the listing.
 use Prim.Native.Nat.{ℕ}
 use mathlib.Core.List.{List, flatMap}
 use Rattle.reading.specs.Trees.{Tree}

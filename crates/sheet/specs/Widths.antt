@@ -1,6 +1,5 @@
--- Document 02, R-1: "Widths are proved for every tree." Each line of a sheet is 72 characters and a newline, each of
--- its items stands in its own columns, and there are as many lines as records used. Proved in proofs/Widths as
--- `widths`.
+-- READING, 'The sheet', of any accepted reading: each line of its sheet is 72 characters and a newline, each of its
+-- items stands in its own columns, and there are as many lines as records used. Proved in proofs/Widths as `widths`.
 use Prim.Native.Nat.{ℕ, _*_, _≤_, _<_}
 use mathlib.Core.Path.{_≡_}
 use mathlib.Core.List.{List}

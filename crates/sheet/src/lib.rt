@@ -1,5 +1,5 @@
-// The sheet: the values of a tree as lines of fixed columns, one line a value in listing order (document 02, R-1). Here
-// stand its definition and the writer of a line; who walks over the values stands above.
+// The sheet (READING, 'The sheet'): the values of a tree in listing order, each as a line of fixed columns. Here stand
+// its definition and the writer of a line; who walks over the values stands above.
 // The columns are specs/Columns, a line specs/Line, the sheet of a tree specs/Sheet; that every line of a reading's
 // sheet is 72 characters and a newline is specs/Widths.
 // Below it stand the values in listing order (listed), the writers into a lent output (output), a record's row (row)

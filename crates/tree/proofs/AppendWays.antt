@@ -14,11 +14,11 @@ use Rattle.records.specs.declared.store.ValueWords.{ValueWords}
 use Rattle.row.specs.Words.{recordCount}
 use Rattle.aids.specs.declared.Among.{Among}
 use Rattle.indexed.specs.Adding.{Change, Leaves, Appends, appended}
-use Rattle.indexed.specs.Aids.{aidsFor, Grown}
+use Rattle.finding.specs.Aids.{aidsFor, Grown}
 use Rattle.records.specs.Nodes.{Nodes, node, plug}
 use Rattle.records.specs.Holds.{Holds}
 use Rattle.records.proofs.Held.{other-text}
-use Rattle.indexed.proofs.Keeping.{holds-kept}
+use Rattle.finding.proofs.Keeping.{holds-kept}
 use Rattle.reading.specs.Values.{Node}
 use Rattle.reading.specs.Leaves.{Leaf, leafOf}
 use Rattle.refusals.specs.declared.Refusal.the-variants.{TooFewRecords, TooLittleText}

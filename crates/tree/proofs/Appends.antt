@@ -141,7 +141,7 @@ module _ (ws text : List ℕ) (used : ℕ) (E : Environment) (x : Leaf) (t zs : 
     abbrev T : Node → Nodes
     T y = plug a (node n (recordOf (y .row) (y .value)) (below (y .value)) s)
 
-    -- A single value becomes a Sequence of two.
+    -- A single value: a Sequence of both is made.
     two : (w : Value) → below w ≡ nil → Holds ws text used (T (at l w))
         → Agrees (paired ws used n c) T (charge E 2 (leafText x) (sequenceAt l (pairOf x w before)) before)
     unfolding paired
@@ -150,7 +150,7 @@ module _ (ws text : List ℕ) (used : ℕ) (E : Environment) (x : Leaf) (t zs : 
         (λ f m. rw (z, leaf-below x (length t), m)
         (pair-holds n (recordOf l w) s a (subst (λ (q : Nodes). Holds ws text used (plug a (node n (recordOf l w) q s))) z k) c (omega arith)))
 
-    -- A Sequence gets it last.
+    -- A Sequence: one element more.
     last-one : (cs : Forest) → Holds ws text used (T (sequenceAt l cs))
         → Agrees (pushed ws used n c) T (charge E 1 (leafText x) (sequenceAt l (snoc cs (element x before))) before)
     unfolding pushed
@@ -164,7 +164,7 @@ module _ (ws text : List ℕ) (used : ℕ) (E : Environment) (x : Leaf) (t zs : 
         ∙ insert-last used (valueAt x (length t)) cs (leaf-below x (length t)))
         (push-holds n (recordOf l (sequence cs)) (nodes cs) s a k c (omega arith)))
 
-    -- Uninitialized becomes it.
+    -- Uninitialized: the value is put there.
     turns-into : Holds ws text used (T (at l uninitialized))
         → Agrees (record { words = withValue ws n c; answer = Used used }) T (charge E 0 (leafText x) (at l (valueAt x (length t))) before)
     turns-into k =

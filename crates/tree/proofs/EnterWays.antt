@@ -18,7 +18,7 @@ use Rattle.key.specs.declared.KeyKind.{KeyKind}
 use Rattle.key.specs.declared.KeyKind.the-variants.{None, Int, String}
 use Rattle.records.specs.declared.siblings.Position.{Position}
 use Rattle.records.specs.declared.siblings.Position.the-variants.{Found, Between}
-use Rattle.indexed.specs.declared.finding.Walk.{Walk}
+use Rattle.finding.specs.declared.Walk.{Walk}
 use Rattle.records.specs.declared.store.KeyWords.{KeyWords}
 use Rattle.records.specs.declared.store.Record.{Record}
 use Rattle.row.specs.Words.{recordCount, word}
@@ -29,14 +29,14 @@ use Rattle.records.specs.Siblings.{position}
 use Rattle.indexed.specs.Adding.{childless}
 use Rattle.records.specs.Nodes.{Nodes, node, plug}
 use Rattle.records.specs.Holds.{Holds}
-use Rattle.indexed.specs.Aids.{Gap, Aided, aidsFor, Grown}
+use Rattle.finding.specs.Aids.{Gap, Aided, aidsFor, Grown}
 use Rattle.records.proofs.Rows.{length-linked, length-withWords}
 use Rattle.records.proofs.Held.{position-is}
 use Rattle.records.proofs.Seeking.{seekNode, insertNode, keyStands}
 use Rattle.records.proofs.Grown.{insert-holds}
-use Rattle.indexed.proofs.Keeping.{word-kept, position-kept, holds-kept}
-use Rattle.indexed.proofs.Shortcuts.{gap-position}
-use Rattle.indexed.proofs.Finds.{ready-linked, ready-kept}
+use Rattle.finding.proofs.Keeping.{word-kept, position-kept, holds-kept}
+use Rattle.finding.proofs.Shortcuts.{gap-position}
+use Rattle.finding.proofs.Finds.{ready-linked, ready-kept}
 use Rattle.reading.specs.Values.{uninitialized, map, Forest, child, Node}
 use Rattle.refusals.specs.declared.Refusal.the-variants.{TooFewRecords, TooLittleText}
 use Rattle.reading.specs.Charging.{Lent, Environment, more, Made, made, Rule, over, bind, charge}

@@ -6,9 +6,9 @@ use native.Mathlib.Omega.{arith}
 use Rattle.key.specs.Keys.{Key}
 use Rattle.aids.specs.Kept.{freeFrom, Kept}
 use Rattle.records.specs.Siblings.{position}
-use Rattle.indexed.specs.Aids.{Aided}
+use Rattle.finding.specs.Aids.{Aided}
 use Rattle.records.proofs.Held.{well-formed}
-use Rattle.indexed.proofs.Keeping.{holds-kept, position-kept, aided-kept}
+use Rattle.finding.proofs.Keeping.{holds-kept, position-kept, aided-kept}
 use Rattle.reading.specs.Values.{Node}
 use Rattle.reading.specs.Charging.{Environment, Made, Rule}
 use Rattle.tree.specs.declared.Here.{Here}

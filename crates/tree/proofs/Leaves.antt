@@ -8,7 +8,7 @@ use Rattle.row.specs.Row.{mapKind, sequenceKind}
 use Rattle.records.specs.Nodes.{Nodes, nil, node, Context, here, down, along, plug}
 use Rattle.records.specs.Holds.{Holds}
 use Rattle.records.specs.Siblings.{children}
-use Rattle.indexed.specs.Aids.{Leafy, Ready}
+use Rattle.finding.specs.Aids.{Leafy, Ready}
 use Rattle.records.proofs.Forests.{numbers}
 use Rattle.records.proofs.Contexts.{At}
 use Rattle.records.proofs.Held.{kind-is, children-are, at}

@@ -16,7 +16,7 @@ use Rattle.records.specs.Records.{withValue}
 use Rattle.indexed.specs.Adding.{childless}
 use Rattle.records.specs.Nodes.{Nodes, nil, node, plug}
 use Rattle.records.specs.Holds.{Holds, HoldsSome}
-use Rattle.indexed.specs.Aids.{Aided}
+use Rattle.finding.specs.Aids.{Aided}
 use Rattle.records.proofs.Valued.{value-holds, length-withValue}
 use Rattle.indexed.proofs.Knowing.{aided-valued}
 use Rattle.reading.specs.Values.{Row, Value, uninitialized, null, noValue, string, map, sequence, Forest, none, Node, at}

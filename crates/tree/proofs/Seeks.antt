@@ -22,8 +22,8 @@ use Rattle.tags.specs.Tags.{stringTag, tagOf, textOf, IntFits, Sought}
 use Rattle.records.specs.Keys.{meantKey, soughtKey, intOf}
 use Rattle.records.specs.declared.siblings.Position.{Position}
 use Rattle.records.specs.Siblings.{position, WellFormed, ForSome}
-use Rattle.indexed.specs.Finding.{taggedKey, Asked}
-use Rattle.indexed.proofs.Finds.{ready-formed}
+use Rattle.finding.specs.Finding.{taggedKey, Asked}
+use Rattle.finding.proofs.Finds.{ready-formed}
 use Rattle.reading.specs.Adding.{keyText}
 use Rattle.tree.specs.declared.Here.{Here}
 use Rattle.tree.specs.Laying.{LiesBehind, lies, lacks}

@@ -1,4 +1,4 @@
--- "Map children stand in key order": so do the children of a record that is a map.
+-- The children of a Map of the tree are in the order of their keys: so are the children of a record that is a map.
 use mathlib.Core.Path.{_≡_, ap, sym, _∙_, subst}
 use mathlib.Core.List.{List, _++_}
 use Prim.Native.Nat.{ℕ, Ordering·lt}
@@ -11,7 +11,7 @@ use Rattle.records.specs.Keys.{storedKey, keyAt}
 use Rattle.records.specs.Nodes.{Nodes, nil, node, Context, here, down, along, plug}
 use Rattle.records.specs.Holds.{Represents, Holds}
 use Rattle.records.specs.Siblings.{children}
-use Rattle.indexed.specs.Aids.{InOrder, Sorted}
+use Rattle.finding.specs.Aids.{InOrder, Sorted}
 use Rattle.records.proofs.Forests.{numbers}
 use Rattle.records.proofs.Contexts.{At}
 use Rattle.records.proofs.Held.{node-represented, kind-is, children-are, at}

@@ -1,4 +1,4 @@
--- Document 01, 'The root' (a key entered), on the words and the text: a new child.
+-- READING, 'The root' (a key entered), on the words and the text: a new child.
 use mathlib.Core.Path.{_≡_}
 use mathlib.Core.Bool.{cond}
 use mathlib.Core.List.{List}
@@ -8,20 +8,20 @@ use Rattle.decode.specs.declared.Decoded.{Decoded}
 use Rattle.decode.specs.declared.Decoded.the-variants.{Yes, No}
 use Rattle.key.specs.declared.KeyKind.{KeyKind}
 use Rattle.key.specs.declared.KeyKind.the-variants.{None, Int, String}
-use Rattle.indexed.specs.declared.finding.Walk.{Walk}
+use Rattle.finding.specs.declared.Walk.{Walk}
 use Rattle.records.specs.declared.store.KeyWords.{KeyWords}
 use Rattle.records.specs.declared.store.Record.{Record}
 use Rattle.row.specs.Row.{kindWord, uninitializedKind, mapKind, intKeyKind, stringKeyKind}
 use Rattle.row.specs.Words.{recordCount, word}
 use Rattle.records.specs.Records.{inserted}
 use Rattle.indexed.specs.Adding.{childless}
-use Rattle.indexed.specs.Aids.{Ready, aidsFor, Grown}
+use Rattle.finding.specs.Aids.{Ready, aidsFor, Grown}
 use Rattle.refusals.specs.declared.Refusal.the-variants.{TooFewRecords, TooLittleText}
 use Rattle.tree.specs.declared.Here.{Here}
 use Rattle.tree.specs.declared.Performed.{Performed}
 use Rattle.tree.specs.declared.Performed.the-variants.{Made, Refused}
 
--- "2 Int value or key's text offset (0 for an empty key); 3 key length (0 for Int)"
+-- The words of a new key (READING, 'Records'). An empty String has no text, so its offset is 0.
 abbrev pub newStringWords : ℕ → ℕ → KeyWords
 newStringWords offset len = record { kind = stringKeyKind; offset = cond (eqb len 0) 0 offset; len = len }
 
@@ -41,7 +41,7 @@ pub record MapReady (ws text : List ℕ) (here : Here) : Type 0 where
   pub map : word ws (here .node) kindWord ≡ mapKind
 
 -- What entering a new key leaves and answers, by its three ways: too few records, too little text, or a child,
--- Uninitialized, put in the gap, whose key's text is laid. "of 14 and 15 together, 14"
+-- Uninitialized, put in the gap, whose key's text is laid. Records come first: where both are short it is 14.
 pub data Entered (ws : List ℕ) (here : Here) (gap : Walk) (key : KeyKind) (ws' : List ℕ) :
     Decoded → Performed → Type 0 where
   few : {laid : Decoded} → recordCount ws < here .records + 1

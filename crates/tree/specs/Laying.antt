@@ -1,5 +1,4 @@
--- Document 01, 'Settings and the lent buffers': "Text is laid end to end as made". 'Decoding': it "writes into the
--- free tail of the text slice".
+-- READING, 'Records' and 'Decoding': new text is decoded straight behind what is used of the lent text.
 use mathlib.Core.Path.{_≡_}
 use mathlib.Core.Bool.{Bool, cond}
 use mathlib.Core.List.{List, _++_}

@@ -1,4 +1,4 @@
--- Document 01, 'The root' (needing a map) and 'Inside a bracket' (`[]`), on the words of a record.
+-- READING, 'The root' (a map needed) and 'Brackets' (`[]`), on the words of a record.
 use mathlib.Core.Bool.{cond}
 use mathlib.Core.List.{List}
 use Prim.Native.Nat.{ℕ}
@@ -13,8 +13,8 @@ use Rattle.tree.specs.declared.Here.{Here}
 use Rattle.tree.specs.declared.Performed.{Performed}
 use Rattle.tree.specs.declared.Performed.the-variants.{Made, Refused}
 
--- "Needing a map: Uninitialized becomes Map, a Map serves, the rest refuse (8, 9, 10)": the answer by the record's
--- kind.
+-- The answer where a map is needed, by the record's kind: a Map is one, Uninitialized is made one (`becomes`), and the
+-- others are refused, Null and NoValue alike.
 abbrev pub mapAnswer : Here → ℕ → Performed
 mapAnswer here kind =
     cond (eqb kind uninitializedKind) (Made here)
@@ -22,7 +22,7 @@ mapAnswer here kind =
     (cond (eqb kind sequenceKind) (Refused MapOnSequence)
     (cond (eqb kind stringKind) (Refused MapOnString) (Refused MapOnNull))))
 
--- "Uninitialized becomes Sequence, a Sequence serves, the rest refuse (6, 7)"
+-- The same where a sequence is needed: all single values are refused alike.
 abbrev pub sequenceAnswer : Here → ℕ → Performed
 sequenceAnswer here kind =
     cond (eqb kind uninitializedKind) (Made here)

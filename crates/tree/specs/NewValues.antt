@@ -1,4 +1,4 @@
--- Document 01, 'A value (`collect_value`)': the words of a value that is added.
+-- READING, 'Values': the words of a value that is added.
 use Prim.Native.Nat.{ℕ, _+_}
 use Rattle.decode.specs.declared.Decoded.{Decoded}
 use Rattle.decode.specs.declared.Decoded.the-variants.{Yes, No}
@@ -6,14 +6,14 @@ use Rattle.refusals.specs.declared.Refusal.the-variants.{TooLittleText}
 use Rattle.tree.specs.declared.Here.{Here}
 use Rattle.tree.specs.declared.Performed.{Performed}
 use Rattle.tree.specs.declared.Performed.the-variants.{Made, Refused}
-use Rattle.indexed.specs.Aids.{aidsFor}
+use Rattle.finding.specs.Aids.{aidsFor}
 use Rattle.records.specs.declared.store.ValueWords.{ValueWords}
 use Rattle.row.specs.Row.{stringKind, nullKind, noValueKind}
 use Rattle.indexed.specs.Adding.{childless}
 use Rattle.reading.specs.declared.LeafKind.{LeafKind}
 use Rattle.reading.specs.declared.LeafKind.the-variants.{Null, NoValue, String}
 
--- "4, 5 value's text offset and length, both 0 unless String"
+-- Only a String has a text: of the others offset and length are 0.
 abbrev pub newValueWords : LeafKind → ℕ → ℕ → ValueWords
 newValueWords Null offset len = childless nullKind
 newValueWords NoValue offset len = childless noValueKind

@@ -1,4 +1,4 @@
--- Document 01, 'Settings and the lent buffers': the records of a tree, linked by first child and next sibling.
+-- READING, 'Records': the records of a tree, linked by first child and next sibling.
 use Rattle.records.specs.declared.store.KeyWords.{KeyWords}
 use Rattle.records.specs.declared.store.ValueWords.{ValueWords}
 use Rattle.records.specs.declared.store.Record.{Record}
@@ -31,6 +31,6 @@ abbrev mutual
   nodes none = nil
   nodes (child number row value later) = node number (recordOf row value) (below value) (nodes later)
 
--- The records of a tree: "Record 0 is the root." It has no sibling.
+-- The records of a whole tree, of which the root has the number 0 and no sibling.
 abbrev pub rooted : Node → Nodes
 rooted tree = node 0 (recordOf (tree .row) (tree .value)) (below (tree .value)) nil

@@ -6,7 +6,7 @@ use lib.ListN.{length, take, replicate}
 use Rattle.key.specs.Keys.{Key}
 use Rattle.records.specs.Nodes.{Nodes, node, Context, plug}
 use Rattle.records.specs.Holds.{Holds}
-use Rattle.indexed.specs.Aids.{Aided}
+use Rattle.finding.specs.Aids.{Aided}
 use Rattle.reading.specs.Values.{Row, Value, Node, at}
 use Rattle.reading.specs.Charging.{Environment, Used, NodeRule, over}
 use Rattle.reading.specs.Adding.{atPath}
@@ -16,27 +16,27 @@ use Rattle.reading.specs.Reading.{lentBy, lending}
 use Rattle.tree.specs.declared.Here.{Here}
 use Rattle.tree.specs.Nodes.{recordOf, below, rooted}
 
--- Document 01, 'Settings and the lent buffers': the words hold a tree, in so many records, and the text starts with
--- what is laid for it. What the words and the text hold behind that is free.
+-- READING, 'Records': the words hold a tree, in so many records, and the text starts with what is laid for it. What the
+-- words and the text hold behind that is free.
 pub record Stores (ws text : List ℕ) (used filled : ℕ) (tree : Node) (laid : List ℕ) : Type 0 where
   -- the tree's records
   pub holds : Holds ws text used (rooted tree)
   -- each key's and value's text where its offset says
   pub texts : Laid laid (tree .value)
-  -- "Map children stand in key order"
+  -- Maps and Sequences as readings make them, the children of a Map in the order of their keys
   pub shaped : Shaped (tree .value)
   -- the text: what is laid, and then what is free
   pub free : List ℕ
   pub full : text ≡ laid ++ free
   pub fill : filled ≡ length laid
 
--- "what an accepted reading doesn't use is zero": the first n stay, and zero stands behind them.
+-- What isn't used is cleared: the first n stay, and zero stands behind them.
 abbrev pub clearedFrom : ℕ → List ℕ → List ℕ
 clearedFrom n xs = take n xs ++ replicate (length xs - n) 0
 
--- The path leads to record n in the tree ("`&mut ParsedValue` becomes a record number"; in the definitions it is a
--- path). The row and the value there stand in a tree that is `back` of them. `back` of another value with that row is
--- the tree with that value in its place, and that is what a rule at the path changes.
+-- The path leads to record n in the tree. (The source has a `&mut ParsedValue` there, the code a record's number, the
+-- definitions a path.) The row and the value there stand in a tree that is `back` of them. `back` of another value with
+-- that row is the tree with that value in its place, and that is what a rule at the path changes.
 pub record Leads (path : List Key) (tree : Node) (n : ℕ) : Type 0 where
   pub around : Context
   pub rest : Nodes

@@ -14,7 +14,6 @@ use aids::Among;
 use decode::Decoded;
 use indexed::appending;
 use indexed::appending::Appended;
-use indexed::finding;
 use reading::LeafKind;
 use records::store::ValueWords;
 use refusals::Refusal;

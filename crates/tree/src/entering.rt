@@ -6,7 +6,7 @@ ghost use lib.ListN.{length};
 ghost use Rattle.records.specs.Keys.{meantKey};
 ghost use Rattle.aids.specs.Kept.{freeFrom, Kept};
 ghost use Rattle.records.specs.Siblings.{position};
-ghost use Rattle.indexed.specs.Aids.{Gap};
+ghost use Rattle.finding.specs.Aids.{Gap};
 ghost use Rattle.reading.specs.Adding.{keyText};
 ghost use Rattle.tree.specs.Laying.{LiesBehind};
 ghost use Rattle.tree.specs.Entering.{newStringWords, newKeyWords, newRecord, MapReady, Entered};
@@ -18,8 +18,7 @@ use crate::laying;
 use crate::needing;
 use aids::Among;
 use decode::Decoded;
-use indexed::finding;
-use indexed::finding::Walk;
+use finding::Walk;
 use indexed::growing;
 use key::KeyKind;
 use records::keys;
@@ -151,8 +150,8 @@ fn enter_new(
 }
 
 // Enters a key in the map that is needed at the record: the child that has it, or a new one, Uninitialized. The key is
-// decoded once, into the free text, and found by what is shown of it there. An existing key is charged nothing, and
-// found however little text is left. After a refusal what the words and the text hold is free.
+// decoded once, into the free text, and found by what is shown of it there. A key that has a child already needs no
+// space, and is found however little text is left. After a refusal what the words and the text hold is free.
 pub fn enter(words: &mut [u32], text: &mut [u8], here: Here, key: KeyKind, raw: &[u8]) -> Performed
     requires { ⌜ SomeStoredAt (now words) (now text) here ⌝ ∗ ⌜ Countable here 2 (length (now raw)) ⌝ }
     ensures performs { λ r. ⌜ Performs (now (words .entry)) (now (text .entry)) (now (words .exit)) (now (text .exit))

@@ -12,7 +12,7 @@ use records::store;
 use records::store::ValueWords;
 use refusals::Refusal;
 
-// Needs a map at the record: Uninitialized becomes Map, a Map serves, the rest refuse. Nothing else changes.
+// Needs a map at the record: a Map stays, Uninitialized is made one, any other kind is refused. Nothing else changes.
 pub fn expect_map(words: &mut [u32], here: Here) -> Performed
     requires { ⌜ here .node < recordCount (now words) ⌝ }
     ensures words { λ r. ⌜ (r ≡ mapAnswer here (word (now (words .entry)) (here .node) kindWord))
@@ -42,7 +42,7 @@ pub fn expect_map(words: &mut [u32], here: Here) -> Performed
     Performed::Refused(Refusal::MapOnNull)
 }
 
-// Needs a sequence at the record, for `[]`: Uninitialized becomes Sequence, a Sequence serves, the rest refuse.
+// Needs a sequence at the record, for `[]`: a Sequence stays, Uninitialized is made one, any other kind is refused.
 // Nothing else changes.
 pub fn expect_sequence(words: &mut [u32], here: Here) -> Performed
     requires { ⌜ here .node < recordCount (now words) ⌝ }

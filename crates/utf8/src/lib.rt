@@ -1,4 +1,4 @@
-// Whether bytes are UTF-8. Document 01: "UTF-8 is RFC 3629". In the source it is `std::str::from_utf8`, which
+// Whether bytes are UTF-8 by RFC 3629 (READING, 'Decoding'). In the source it is `std::str::from_utf8`, which
 // `decode_utf8` of src/de/string_parser.rs calls. What is promised stands in specs/Decides.antt.
 // Below it stands `laws`.
 ghost use mathlib.Core.Path.{_≡_};

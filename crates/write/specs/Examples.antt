@@ -36,7 +36,7 @@ refused config input size a =
 
 abbrev pub outputTests : List OutputTest
 outputTests =
-    -- "The result's length is the written ticket's. Past the ticket … the output is unchanged."
+    -- an output that just suffices, and one with more, whose rest stays
     done "b=2&a=1" 7 (numbers 0 0 3 4) 7 "a=1&b=2" 0 ∷
     done "b=2&a=1" 9 (numbers 0 0 3 4) 7 "a=1&b=2" 2 ∷
     done "a=%5B" 5 (numbers 0 0 2 2) 5 "a=%5b" 0 ∷
@@ -44,11 +44,11 @@ outputTests =
     -- a NoValue root fits an output of no bytes
     done "" 0 (numbers 0 0 1 0) 0 "" 0 ∷
     done "" 3 (numbers 0 0 1 0) 0 "" 3 ∷
-    -- "26: those bytes are more than the output holds", by one byte and by all; the counts are the reading's
+    -- an output that is too short, by one byte and by all; the counts are the reading's
     refused defaults "b=2&a=1" 6 (numbers 26 0 3 4) ∷
     refused defaults "a=%5B" 4 (numbers 26 0 2 2) ∷
     refused defaults "&" 0 (numbers 26 0 1 0) ∷
-    -- "after a reading accepts": the reading's refusals come first
+    -- the reading's refusals come first
     refused defaults "a[" 2 (numbers 4 3 0 0) ∷
     refused defaults "a&a" 0 (numbers 14 4 0 0) ∷
     refused defaults "abcde" 9 (numbers 15 6 0 0) ∷

@@ -1,5 +1,5 @@
 -- A reading and the input that is written of its tree: what the call answers, and what it leaves in the lent buffers
--- and the lent output. Document 02, R-4. The public contract equates its result with `writing`.
+-- and the lent output. READING, 'The writer'. The public contract equates its result with `writing`.
 use Prim.Native.Nat.{ℕ}
 use mathlib.Core.Bool.{cond, _||_}
 use mathlib.Core.List.{List, _++_}
@@ -27,16 +27,16 @@ abbrev pub answered : Reading → ℕ → Written
 answered a length =
     record { number = a .number; place = a .place; records = a .records; bytes = a .bytes; length = length }
 
--- "under any refusal, the output is unchanged", and nothing is written
+-- Nothing is written, and the output stays as it was.
 abbrev pub unwritten : Outcome → List ℕ → Result
 unwritten o out = record { answer = answered (o .answer) 0; words = o .words; text = o .text; out = out }
 
--- 26: records and text are as the reading left them.
+-- 26, with the counts, the words and the text that the reading left.
 abbrev pub shortOutput : Outcome → Outcome
 shortOutput o = record { answer = refusedAfter (o .answer) ShortOutput; words = o .words; text = o .text }
 
--- "those bytes are more than the output holds or than the length limit"; else they stand in it. "The result's length is
--- the written ticket's. Past the ticket … the output is unchanged."
+-- After an accepted reading: refused where the bytes find no room in the output or pass the length limit. Else they
+-- stand at its front, the rest of it stays, and the answer tells how many they are.
 abbrev pub resultOf : Config → Node → Outcome → List ℕ → Result
 resultOf config tree o out =
     let bytes = written config (plain (tree .value)) in
@@ -48,7 +48,7 @@ resultOf config tree o out =
       out = bytes ++ drop (length bytes) out;
     })
 
--- "after a reading accepts"
+-- The output is asked for only where the reading is accepted: its own refusals come first.
 abbrev pub writing : Config → List ℕ → List ℕ → List ℕ → List ℕ → Result
 writing config input words text out =
     after (read config input words text) (λ tree o. resultOf config tree o out) (λ o. unwritten o out)

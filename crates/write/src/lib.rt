@@ -1,5 +1,5 @@
-// The writer's call: reads an input and writes one that reads back as its tree. Document 02, R-4. What is promised
-// stands in specs/Writing.
+// The writer's call: reads an input and writes one that reads back as its tree (READING, 'The writer'). What is
+// promised stands in specs/Writing.
 // Below it stand the reader (parse), the writer of a tree (writer), which trees readings make (round_trip) and the
 // definitions of a reading (reading).
 ghost use mathlib.Core.Bool.{_&&_};

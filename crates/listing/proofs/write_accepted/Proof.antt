@@ -1,4 +1,4 @@
--- A refused outcome lists nothing; of an accepted one the walk writes the values in document 01's lines.
+-- A refused outcome lists nothing; of an accepted one the walk writes the values in the lines of the listing.
 use borrow.Author.Needs.{needs}
 use borrow.Author.Tests.{eq-eqb, ne-eqb}
 use Rattle.output.proofs.Pages.{puts-nothing, puts-same}

@@ -18,41 +18,32 @@ Inv-loop a b i₀ i = Aligned a b (compareBytes a b) i
 abbrev μ-loop : tie.MeasureT-loop
 μ-loop a b i₀ i = length a - i
 
--- src/lib.rt:132:9
 returns : tie.Need-returns Inv-loop μ-loop
 returns c = λ e. absurd (true≢false (sym e))
 
--- src/lib.rt:135:5
 loop-holds : tie.Need-loop-holds Inv-loop μ-loop
 loop-holds c = record { inside = omega arith; within = omega arith; so-far = refl }
 
--- src/lib.rt:136:12
 shared-slice-read-if2 : tie.Need-shared-slice-read-if2 Inv-loop μ-loop
 shared-slice-read-if2 c = omega arith
 
--- src/lib.rt:136:20
 shared-slice-read-if2-2 : tie.Need-shared-slice-read-if2-2 Inv-loop μ-loop
 shared-slice-read-if2-2 c = omega (arith, c .before .before .before .before .if1 .left)
 
--- src/lib.rt:137:13
 returns-2 : tie.Need-returns-2 Inv-loop μ-loop
 returns-2 c = λ e. absurd (true≢false (sym e))
 
--- src/lib.rt:139:9
 add-i : tie.Need-add-i Inv-loop μ-loop
 add-i c = omega arith
 
--- src/lib.rt:135:5
 loop-less : tie.Need-loop-less Inv-loop μ-loop
 loop-less c = omega arith
 
--- src/lib.rt:135:5
 loop-again : tie.Need-loop-again Inv-loop μ-loop
 loop-again c =
     aligned-next (c .before .before .before .before .loop .inv) (omega arith) (omega (arith, c .before .before .before .before .before .if1 .left))
     (c .if2 .left)
 
--- src/lib.rt:128:1
 returns-3 : tie.Need-returns-3 Inv-loop μ-loop
 returns-3 c =
     λ _. sym (aligned-end (c .before .loop .inv) (omega (arith, c .before .before .if1 .left))) ∙ compare-equal _ _

@@ -1,4 +1,4 @@
--- An Uninitialized root is a lone '&'; any other value is written from the output's start on.
+-- For an Uninitialized root '&' is written; any other value is written from the output's start on.
 use mathlib.Core.Path.{refl}
 use Rattle.writer.proofs.Roots.{written-undecided, written-decided}
 use borrow.Author.Needs.{needs}

@@ -5,7 +5,7 @@ use native.Mathlib.Omega.{arith}
 use borrow.Author.Needs.{needs}
 use borrow.Fn.Kinds.{In}
 use borrow.Fn.PlainCycle.{Measures, is, falls, and}
-use Rattle.indexed.proofs.Finds.{ready-linked, ready-kept}
+use Rattle.finding.proofs.Finds.{ready-linked, ready-kept}
 use Rattle.indexed.proofs.Added.{append-other, child-inside, append-child, append-gap, append-new}
 use Rattle.indexed.proofs.appending.append.Reads as append
 use Rattle.indexed.proofs.appending.append.Kinds as append-kinds

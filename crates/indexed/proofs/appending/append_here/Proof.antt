@@ -1,4 +1,4 @@
--- By the kind, as in the definition: Uninitialized becomes the value, a Sequence gets it last, the rest make a pair.
+-- By the kind, as in the definition: Uninitialized takes the value, a Sequence one element more, the rest make a pair.
 use Rattle.indexed.proofs.Added.{at-uninitialized, at-sequence, at-single}
 use Rattle.indexed.proofs.Grows.{grown-valued}
 use borrow.Author.Needs.{needs}

@@ -4,7 +4,7 @@ use mathlib.Core.Path.{ap, _∙_}
 use Rattle.key.specs.Keys.{Key}
 use Rattle.records.specs.Keys.{soughtKey}
 use Rattle.records.specs.Siblings.{position}
-use Rattle.indexed.proofs.Finds.{ready-formed, empty-key, empty-sought}
+use Rattle.finding.proofs.Finds.{ready-formed, empty-key, empty-sought}
 use borrow.Author.Needs.{needs}
 use Rattle.indexed.proofs.appending.find_empty.Statement.{statement}
 use Rattle.indexed.proofs.appending.find_empty.Tie as tie

@@ -2,7 +2,7 @@
 use native.Mathlib.Omega.{arith}
 use Rattle.indexed.specs.Adding.{paired}
 use Rattle.indexed.proofs.Added.{room, with-room, no-room}
-use Rattle.indexed.proofs.Finds.{ready-linked}
+use Rattle.finding.proofs.Finds.{ready-linked}
 use Rattle.indexed.proofs.Grows.{two-length, grown-two}
 use borrow.Author.Needs.{needs}
 use Rattle.indexed.proofs.appending.pair.Statement.{statement}

@@ -1,7 +1,7 @@
 -- The record is put in, and noted.
 use native.Mathlib.Omega.{arith}
 use Rattle.records.proofs.Held.{well-formed}
-use Rattle.indexed.proofs.Shortcuts.{gap-prev}
+use Rattle.finding.proofs.Shortcuts.{gap-prev}
 use Rattle.indexed.proofs.Knowing.{some-inserted}
 use Rattle.indexed.proofs.Grows.{inserted-length, grown-noted}
 use borrow.Author.Needs.{needs}

@@ -4,8 +4,8 @@ use mathlib.Core.Path.{ap, _∙_}
 use Prim.Native.Nat.{ℕ}
 use Rattle.records.specs.Records.{inserted}
 use Rattle.records.proofs.Chains.{last-inside}
-use Rattle.indexed.proofs.Shortcuts.{gap-last}
-use Rattle.indexed.proofs.Finds.{ready-linked}
+use Rattle.finding.proofs.Shortcuts.{gap-last}
+use Rattle.finding.proofs.Finds.{ready-linked}
 use Rattle.indexed.proofs.Grows.{inserted-length, grown-noted}
 use borrow.Author.Needs.{needs}
 use Rattle.indexed.proofs.growing.insert_last.Statement.{statement}

@@ -9,31 +9,24 @@ use Rattle.records.proofs.keys.has_int.Reads as reads
 use Rattle.records.proofs.keys.has_int.Lts as lts
 use Rattle.records.proofs.keys.compare_int.Reads as compare-int-reads
 
--- src/keys.rt:212:11
 compare-int-requires : tie.Need-compare-int-requires
 compare-int-requires c κs = search needs
 
--- src/keys.rt:213:27
 enum-told : tie.Need-enum-told
 enum-told c = search needs
 
--- src/keys.rt:214:28
 enum-told-2 : tie.Need-enum-told-2
 enum-told-2 c = search needs
 
--- src/keys.rt:215:30
 enum-told-3 : tie.Need-enum-told-3
 enum-told-3 c = search needs
 
--- src/keys.rt:207:1
 returns : tie.Need-returns
 returns c = λ e. absurd (true≢false (sym e))
 
--- src/keys.rt:207:1
 returns-2 : tie.Need-returns-2
 returns-2 c = λ _. sym (c .before .before .compare-int .ensures) ∙ ap orderingOf (c .enum-told2 .given .1)
 
--- src/keys.rt:207:1
 returns-3 : tie.Need-returns-3
 returns-3 c = λ e. absurd (true≢false (sym e))
 

@@ -11,28 +11,22 @@ use Rattle.records.proofs.keys.has_string.Reads as has-string-reads
 use Rattle.records.proofs.keys.int_of.Reads as int-of-reads
 use Rattle.records.proofs.keys.is_int.Reads as is-int-reads
 
--- src/keys.rt:225:8
 is-int-requires : tie.Need-is-int-requires
 is-int-requires c κs = search needs
 
--- src/keys.rt:226:40
 int-of-requires : tie.Need-int-of-requires
 int-of-requires c κs = search needs
 
--- src/keys.rt:226:9
 has-int-requires : tie.Need-has-int-requires
 has-int-requires c κs = search needs
 
--- src/keys.rt:226:9
 returns : tie.Need-returns
 unfolding soughtKey
 returns c = rw (sym (c .before .before .before .is-int .ensures) ∙ c .before .before .if1 .taken, sym (c .before .int-of .ensures)) (c .has-int .ensures)
 
--- src/keys.rt:228:5
 has-string-requires : tie.Need-has-string-requires
 has-string-requires c κs = search needs
 
--- src/keys.rt:220:1
 returns-2 : tie.Need-returns-2
 unfolding soughtKey
 returns-2 c = rw (sym (c .before .before .is-int .ensures) ∙ c .before .if1 .left) (c .has-string .ensures)

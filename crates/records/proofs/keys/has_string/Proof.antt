@@ -10,43 +10,33 @@ use Rattle.records.proofs.keys.has_string.Lts as lts
 use Rattle.row.proofs.get_word.Reads as get-word-reads
 use Rattle.tags.proofs.same_bytes.Reads as same-bytes-reads
 
--- src/keys.rt:198:8
 get-word-requires : tie.Need-get-word-requires
 get-word-requires c κs = search needs
 
--- src/keys.rt:199:9
 returns : tie.Need-returns
 returns c = λ e. absurd (true≢false (sym e))
 
--- src/keys.rt:201:17
 get-word-requires-2 : tie.Need-get-word-requires-2
 get-word-requires-2 c κs = search needs
 
--- src/keys.rt:201:17
 cast-start : tie.Need-cast-start
 cast-start c = search needs
 
--- src/keys.rt:202:23
 get-word-requires-3 : tie.Need-get-word-requires-3
 get-word-requires-3 c κs = search needs
 
--- src/keys.rt:202:23
 cast-end : tie.Need-cast-end
 cast-end c = search needs
 
--- src/keys.rt:202:15
 add-end : tie.Need-add-end
 add-end c = search needs
 
--- src/keys.rt:203:22
 sub-same-bytes : tie.Need-sub-same-bytes
 sub-same-bytes c = search needs
 
--- src/keys.rt:203:22
 part-same-bytes-start : tie.Need-part-same-bytes-start
 part-same-bytes-start c = search needs
 
--- src/keys.rt:203:22
 part-same-bytes-end : tie.Need-part-same-bytes-end
 part-same-bytes-end c =
     string-inside (c .before .before .before .before .before .before .before .args .words .now)
@@ -55,11 +45,9 @@ part-same-bytes-end c =
     (c .before .before .if1 .left) (c .before .get-word2 .ensures) (c .get-word3 .ensures)
     (c .before .before .before .before .before .before .before .pre .1)
 
--- src/keys.rt:203:5
 same-bytes-requires : tie.Need-same-bytes-requires
 same-bytes-requires c κs = search needs
 
--- src/keys.rt:193:1
 returns-2 : tie.Need-returns-2
 returns-2 c =
     λ t. sym (string-string (c .before .before .before .before .before .before .before .before .before .args .words .now)

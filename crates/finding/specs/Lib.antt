@@ -1,0 +1,2 @@
+pub mod Aids
+pub mod Finding
