@@ -1,16 +1,19 @@
 #!/usr/bin/env bash
-# Runs the layout program: rust/layout.sh TICKET [NAME...], or with --sheet TICKET, --write TICKET or --segment SEGMENT; all but the
-# last also with --zeros in front.
-# It proves and builds the library and the program first where their sources are newer.
-# It needs rt and rustc, and no crate but ours.
+# Runs the layout program: rust/layout.sh TICKET [NAME...]. rust/layout.sh --help tells the rest.
+# It builds the library (library.sh) and the program first where that is due. It needs rustc, rt for
+# the library, and no crate but ours.
 set -eu
-cd "$(dirname "$(readlink -f "${BASH_SOURCE[0]}")")/.."
-folder=target/rust
+# The folder stays the caller's, so that --file finds a path as the caller means it.
+top=$(dirname "$(dirname "$(readlink -f "${BASH_SOURCE[0]}")")")
+sources=$top/rust/src
+library=$top/target/staticlib
+folder=$top/target/rust
 program=$folder/layout
-if [ ! -x "$program" ] || [ -n "$(find crates rust/src -newer "$program" -type f -print -quit)" ]; then
-    rt staticlib qs >&2
+"$top/library.sh" >&2
+if [ ! -x "$program" ] || [ -n "$(find "$sources" "$library" -newer "$program" -type f -print -quit)" ]; then
     mkdir -p "$folder"
-    rustc --edition 2021 -O --crate-type rlib --crate-name qs -L native=target/staticlib -l static=qs -o "$folder/libqs.rlib" rust/src/lib.rs
-    rustc --edition 2021 -O --extern qs="$folder/libqs.rlib" -o "$program" rust/src/bin/layout.rs
+    rustc --edition 2021 -O --crate-type rlib --crate-name qs --cfg 'feature="alloc"' \
+        -L native="$library" -l static=qs -o "$folder/libqs.rlib" "$sources/lib.rs"
+    rustc --edition 2021 -O --extern qs="$folder/libqs.rlib" -o "$program" "$sources/bin/layout.rs"
 fi
 exec "$program" "$@"

@@ -1,25 +1,27 @@
-//! How long `qs_parse` takes beside the crate's own `parse`, `qs_text` and `qs_list` beside `qs_parse`, `qs_fields` beside
-//! as many calls of `qs_text`, and the writing of `qs_write` beside its reading, in one process:
+//! How long `qs_parse` takes beside the crate's own `parse`, `qs_text` and `qs_list` beside
+//! `qs_parse`, `qs_fields` beside as many calls of `qs_text`, and the writing of `qs_write` beside
+//! its reading, in one process:
 //!
 //!     rust/cargo.sh bench
 //!     rust/cargo.sh bench --bench parse -- falling 40000
 //!     rust/cargo.sh bench --bench parse -- written
 //!
-//! A number asks for inputs of so many bytes instead of the usual sizes, and other words for the kinds that have one of
-//! them in their name.
+//! A number asks for inputs of so many bytes instead of the usual sizes, and other words for the
+//! kinds that have one of them in their name.
 //!
-//! Ours has n + 1 records and n bytes of text lent for n bytes of input, which always suffice. Its time is that of the
-//! reading and of clearing what it doesn't use of these; they are lent again and again, and their making isn't in it.
-//! The crate's time has the making and the dropping of its tree in it. Both are built optimised. The two read an input
-//! in turns, one reading each, and each figure is the least of all its turns. The slowest have few of them.
+//! Ours has n + 1 records and n bytes of text lent for n bytes of input, which always suffice. Its
+//! time is that of the reading and of clearing what it doesn't use of these; they are lent again
+//! and again, and their making isn't in it. The crate's time has the making and the dropping of its
+//! tree in it. Both are built optimised. The two read an input in turns, one reading each, and each
+//! figure is the least of all its turns. The slowest have few of them.
 
 #[path = "../tests/common/mod.rs"]
 mod common;
 
-use common::crate_config;
 use common::kinds::{joined, ordered, pairs, plate, Kind, HARD, USUAL};
 use common::orders::{falling, rising};
-use qs::{refusal, Config, DuplicateKeyBehavior::TakeLast, Names, ANSWER_WORDS};
+use common::{crate_config, ticket};
+use qs::{raw, refusal, Buffers, Config, NamesBuf, Ticket};
 use std::fmt::Write as _;
 use std::hint::black_box;
 use std::time::{Duration, Instant};
@@ -56,7 +58,8 @@ qs_write without its reading: its time less that of qs_parse of the same input, 
 too long at one of the sizes are left out.
 ";
 
-/// The usual sizes, those for many names, and the two that tell the growth, which are those for writing too.
+/// The usual sizes, those for many names, and the two that tell the growth, which are those for
+/// writing too.
 const SIZES: [usize; 4] = [1_000, 20_000, 40_000, 65_535];
 const MANY_SIZES: [usize; 2] = [2_000, 40_000];
 const GROWTH: [usize; 2] = [20_000, 40_000];
@@ -246,10 +249,10 @@ fn parse(kind: &Kind, zeros: bool, length: usize) -> Times {
         zeros,
         ..crate_config(depth, false)
     };
-    let (mut records, mut text) = qs::buffers(input.len());
+    let mut buffers = Buffers::for_len(input.len());
     Times::least(
         || {
-            let reading = qs::parse(config, black_box(&input), &mut records, &mut text);
+            let reading = raw::parse(ticket(config, black_box(&input)), buffers.lend());
             assert_eq!(reading.number, refusal::ACCEPTED);
         },
         || {
@@ -315,23 +318,14 @@ fn of_a(input: Vec<u8>) -> (Vec<u8>, Vec<u8>) {
 /// A field read, and a reading alone.
 fn field(read: &FieldRead, length: usize) -> Times {
     let (input, name) = (read.make)(length);
-    let usual = Config::default();
-    let (mut records, mut text) = qs::buffers(input.len());
-    let mut list = vec![0; 2 * (input.len() + 1)];
+    let mut buffers = Buffers::for_len(input.len());
+    let mut list = vec![0; qs::list_room(input.len())];
     Times::least(
         || {
-            let input = black_box(&input[..]);
+            let ticket = Ticket::new(black_box(&input[..]));
             let read = match read.list {
-                true => qs::list(
-                    usual,
-                    TakeLast,
-                    input,
-                    &name,
-                    &mut records,
-                    &mut text,
-                    &mut list,
-                ),
-                false => qs::text(usual, TakeLast, input, &name, &mut records, &mut text),
+                true => raw::list(ticket, &name, buffers.lend(), &mut list),
+                false => raw::text(ticket, &name, buffers.lend()),
             };
             assert_eq!(read.reading.number, refusal::ACCEPTED);
         },
@@ -341,10 +335,9 @@ fn field(read: &FieldRead, length: usize) -> Times {
 
 /// A reading alone, in buffers of its own.
 fn alone(input: &[u8]) -> impl FnMut() + '_ {
-    let (mut records, mut text) = qs::buffers(input.len());
+    let mut buffers = Buffers::for_len(input.len());
     move || {
-        let input = black_box(input);
-        let reading = qs::parse(Config::default(), input, &mut records, &mut text);
+        let reading = raw::parse(Ticket::new(black_box(input)), buffers.lend());
         assert_eq!(reading.number, refusal::ACCEPTED);
     }
 }
@@ -386,42 +379,27 @@ fn spread(count: usize) -> impl Iterator<Item = usize> {
 struct Many {
     input: Vec<u8>,
     names: Vec<String>,
-    bytes: Vec<u8>,
-    ends: Vec<u32>,
-    records: Vec<u32>,
-    text: Vec<u8>,
+    laid: NamesBuf,
+    buffers: Buffers,
     answers: Vec<u32>,
 }
 
 impl Many {
     fn new((input, names): (Vec<u8>, Vec<String>)) -> Self {
-        let (bytes, ends) = qs::laid_out(&names);
-        let (records, text) = qs::buffers(input.len());
+        let laid = NamesBuf::of(&names);
         Many {
+            buffers: Buffers::for_len(input.len()),
+            answers: laid.answers(),
             input,
-            answers: vec![0; ANSWER_WORDS * names.len()],
             names,
-            bytes,
-            ends,
-            records,
-            text,
+            laid,
         }
     }
 
     fn fields(&mut self) {
-        let names = Names {
-            bytes: &self.bytes,
-            ends: &self.ends,
-        };
-        let reading = qs::fields_into(
-            Config::default(),
-            TakeLast,
-            black_box(&self.input),
-            names,
-            &mut self.records,
-            &mut self.text,
-            &mut self.answers,
-        );
+        let ticket = Ticket::new(black_box(&self.input));
+        let lent = self.buffers.lend();
+        let reading = raw::fields(ticket, self.laid.lend(), lent, &mut self.answers);
         assert_eq!(reading.number, refusal::ACCEPTED);
     }
 }
@@ -429,17 +407,10 @@ impl Many {
 /// One call for all names, and one for each.
 fn against_texts(mut many: Many) -> Times {
     let (input, names) = (many.input.clone(), many.names.clone());
-    let (mut records, mut text) = qs::buffers(input.len());
+    let mut buffers = Buffers::for_len(input.len());
     let mut single = |name: &String| {
-        let (input, name) = (black_box(&input), name.as_bytes());
-        let read = qs::text(
-            Config::default(),
-            TakeLast,
-            input,
-            name,
-            &mut records,
-            &mut text,
-        );
+        let ticket = Ticket::new(black_box(&input));
+        let read = raw::text(ticket, name.as_bytes(), buffers.lend());
         assert!(!refusal::OF_A_READING.contains(&read.reading.number));
     };
     Times::least(|| many.fields(), || names.iter().for_each(&mut single))
@@ -477,28 +448,24 @@ const WRITTEN_KINDS: [Kind; 3] = [
 struct Writing {
     config: Config,
     input: Vec<u8>,
-    records: Vec<u32>,
-    text: Vec<u8>,
+    buffers: Buffers,
     out: Vec<u8>,
 }
 
 impl Writing {
     fn new(kind: &Kind, length: usize) -> Self {
         let input = (kind.make)(length);
-        let (records, text) = qs::buffers(input.len());
         Writing {
             config: crate_config(kind.depth, false),
+            buffers: Buffers::for_len(input.len()),
             out: vec![0; qs::write_room(input.len())],
             input,
-            records,
-            text,
         }
     }
 
     fn number(&mut self) -> u32 {
-        let input = black_box(&self.input[..]);
-        let (records, text) = (&mut self.records, &mut self.text);
-        let written = qs::write(self.config, input, records, text, &mut self.out);
+        let ticket = ticket(self.config, black_box(&self.input));
+        let written = raw::write(ticket, self.buffers.lend(), &mut self.out);
         written.reading.number
     }
 
@@ -510,11 +477,11 @@ impl Writing {
     /// The writing alone, and the reading alone.
     fn times(mut self) -> Times {
         let input = self.input.clone();
-        let (config, (mut records, mut text)) = (self.config, qs::buffers(input.len()));
+        let (config, mut buffers) = (self.config, Buffers::for_len(input.len()));
         let Times { ours, other } = Times::least(
             || assert_eq!(self.number(), refusal::ACCEPTED),
             || {
-                let reading = qs::parse(config, black_box(&input), &mut records, &mut text);
+                let reading = raw::parse(ticket(config, black_box(&input)), buffers.lend());
                 assert_eq!(reading.number, refusal::ACCEPTED);
             },
         );

@@ -1,8 +1,10 @@
-//! Writes the stored answers that the program `replay` reads: `rust/cargo.sh run --release --example store > crates/replay/stdin`.
+//! Writes the stored answers that the program `replay` reads: `rust/cargo.sh run --release
+//! --example store > crates/replay/stdin`.
 //!
-//! A case is a reading and everything that it has to answer and to leave; crates/replay/FORMAT.md says how cases are laid out. The words,
-//! the counts and what small buffers do come from the model; each of the model's trees and each refusal 4 to 13 is held against
-//! serde_qs 1.1.3 before it is written.
+//! A case is a reading and everything that it has to answer and to leave; crates/replay/FORMAT.md
+//! says how cases are laid out. The words, the counts and what small buffers do come from the
+//! model; each of the model's trees and each refusal 4 to 13 is held against serde_qs 1.1.3 before
+//! it is written.
 
 #[path = "../tests/common/mod.rs"]
 pub(crate) mod common;
@@ -15,7 +17,7 @@ use qs::refusal;
 use std::collections::BTreeSet;
 use std::io::{self, Write};
 
-/// The most that a case lends: as much as document 01's listing program.
+/// The most that a case lends: as much as the listing program.
 pub const MOST_WORDS: usize = programs::LIST_RECORDS * WIDTH;
 pub const MOST_BYTES: usize = programs::LIST_BYTES;
 
@@ -24,7 +26,7 @@ pub const BEFORE: u8 = 7;
 
 const DEPTHS: [u32; 5] = [0, 1, 2, 5, MAX_DEPTH];
 
-/// Document 01's "Tickets to try" at depth 5, in its order, with the flag.
+/// The tickets of READING, 'Examples', at depth 5, with the flag.
 const INPUTS_TO_TRY: [(&[u8], bool); 35] = [
     (b"", false),
     (b"&&", false),
@@ -88,7 +90,8 @@ fn config(depth: u32, form: bool) -> Config {
     Config { depth, form, zeros }
 }
 
-/// The cases so far: how many, and what is written of them. `seen` keeps a case from being stored twice.
+/// The cases so far: how many, and what is written of them. `seen` keeps a case from being stored
+/// twice.
 #[derive(Default)]
 struct Store {
     cases: u32,
@@ -137,7 +140,8 @@ impl Store {
         }
     }
 
-    /// Keys of digits at the root, in brackets and at the depth, and with no text lent, which an Int doesn't need.
+    /// Keys of digits at the root, in brackets and at the depth, and with no text lent, which an
+    /// Int doesn't need.
     fn digits(&mut self) {
         let padded = |digits: &str| "0".repeat(40) + digits;
         let keys = [
@@ -234,7 +238,7 @@ impl Store {
     }
 }
 
-/// Panics where the crate reads otherwise, or isn't there. Refusals 1 to 3, 14 and 15 are document 01's own.
+/// Panics where the crate reads otherwise, or isn't there. Refusals 1 to 3, 14 and 15 are our own.
 fn hold_against_the_crate(config: Config, input: &[u8], outcome: &Outcome) {
     let answer = match outcome.number {
         refusal::ACCEPTED => Ok(tree(&outcome.words, &outcome.text)),

@@ -2,9 +2,9 @@
 //! src/lib.rs includes them. None of them is kept in this repository.
 //!
 //! They are looked for in the folder that SERDE_QS_SRC names by an absolute path, else in
-//! `shared/docs/src` beside the checkout; either has the crate's `src` in it. Where they are missing
-//! the build goes on, with `cfg(serde_qs_sources)` unset. Where they are others than SHA256SUMS has,
-//! it fails: a comparison with them would say nothing about serde_qs 1.1.3.
+//! `shared/docs/src` beside the checkout; either has the crate's `src` in it. Where they are
+//! missing the build goes on, with `cfg(serde_qs_sources)` unset. Where they are others than
+//! SHA256SUMS has, it fails: a comparison with them would say nothing about serde_qs 1.1.3.
 
 use std::path::{Path, PathBuf};
 use std::process::{exit, Command};

@@ -1,10 +1,11 @@
-//! A record's row: how many words it has, in which word a thing stands, and which numbers stand for kinds.
+//! The layout of a record: in which of its [`RECORD_WORDS`] words a thing stands, and which numbers
+//! stand for kinds (READING, 'Records').
 //!
-//! Whatever reads records in Rust stands on these names. They are those of the proved crate `row`, and the comment in include/qs.h
-//! has the same numbers for C.
+//! It is for who reads the words himself; [`Tree`](crate::Tree) does that for everyone else. The
+//! names are those of the proved crate `row`, and the comment in include/qs.h has the same numbers
+//! for C.
 
-/// A record's width in words.
-pub const WIDTH: usize = 8;
+use crate::RECORD_WORDS;
 
 /// The word of the value's kind.
 pub const KIND: usize = 0;
@@ -57,23 +58,31 @@ pub const INT_KEY: u32 = 1;
 /// The kind of a key whose bytes stand in the text.
 pub const STRING_KEY: u32 = 2;
 
-/// The words of record `number`; record 0 is the root. It panics where the words don't have that record.
+/// The words of record `number`, if the words have that record; record 0 is the root.
 ///
 /// ```
-/// use qs::row;
-/// let (mut words, mut text) = qs::buffers(3);
-/// qs::parse(qs::Config::default(), b"a=1", &mut words, &mut text);
-/// let root = row::record(&words, 0);
+/// use qs::{raw, row, Buffers, Ticket};
+/// let mut buffers = Buffers::for_len(3);
+/// raw::parse(Ticket::new("a=1"), buffers.lend());
+/// let lent = buffers.lend();
+/// let root = row::record(lent.records, 0).unwrap();
 /// assert_eq!(root[row::KIND], row::MAP);
-/// let child = row::record(&words, root[row::CHILD]);
+/// let child = row::record(lent.records, root[row::CHILD]).unwrap();
 /// assert_eq!((child[row::KIND], child[row::KEY_KIND]), (row::STRING, row::STRING_KEY));
-/// assert_eq!(row::part(&text, child[row::TEXT], child[row::TEXT_LEN]), b"1");
+/// assert_eq!(row::part(lent.text, child[row::TEXT], child[row::TEXT_LEN]), Some(&b"1"[..]));
+/// assert_eq!(row::record(lent.records, 4), None);
 /// ```
-pub fn record(words: &[u32], number: u32) -> &[u32] {
-    &words[number as usize * WIDTH..][..WIDTH]
+pub fn record(words: &[u32], number: u32) -> Option<&[u32; RECORD_WORDS]> {
+    let record = words.chunks_exact(RECORD_WORDS).nth(number as usize)?;
+    record.try_into().ok()
 }
 
-/// The bytes at an offset of the text, as words of a record give them. It panics where the text doesn't have them.
-pub fn part(text: &[u8], offset: u32, length: u32) -> &[u8] {
-    &text[offset as usize..][..length as usize]
+/// The bytes at an offset of the text, as words of a record give them, if the text has them.
+///
+/// ```
+/// assert_eq!(qs::row::part(b"a1", 1, 1), Some(&b"1"[..]));
+/// assert_eq!(qs::row::part(b"a1", 1, 2), None);
+/// ```
+pub fn part(text: &[u8], offset: u32, length: u32) -> Option<&[u8]> {
+    text.get(offset as usize..)?.get(..length as usize)
 }

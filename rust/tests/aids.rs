@@ -1,8 +1,9 @@
-//! Many children, in every order, in buffers of many sizes. While it reads, the reader may keep aids to finding a place
-//! among children in lent words that no record has yet; how many words are lent decides how many aids there are, and
-//! from when on none. Nothing of that may show: here every answer, word and byte is held against the model, and with
-//! ample buffers the tree against the crate's. `COMPARE=whole` in the environment makes the inputs larger, and the
-//! random part twenty times as large.
+//! Many children, in every order, in buffers of many sizes. While it reads, the reader may keep
+//! aids to finding a place among children in lent words that no record has yet; how many words are
+//! lent decides how many aids there are, and from when on none. Nothing of that may show: here
+//! every answer, word and byte is held against the model, and with ample buffers the tree against
+//! the crate's. `COMPARE=whole` in the environment makes the inputs larger, and the random part
+//! twenty times as large.
 
 mod common;
 
@@ -10,20 +11,18 @@ use common::kinds::{apart, joined, Kind, HARD, USUAL};
 use common::mixtures::{mixture, NESTINGS, SHAPES};
 use common::orders::{self, ORDERS};
 use common::{
-    both_zeros, crate_config, outcome, random_config, reference_is_there, settings, times, tree,
-    Random,
+    both_zeros, crate_config, outcome, random_config, reference_is_there, settings, ticket, times,
+    tree, Random,
 };
 use model::Outcome;
-use qs::row::WIDTH;
-use qs::DuplicateKeyBehavior::TakeLast;
-use qs::{refusal, Config};
+use qs::{raw, refusal, Config, Lent, RECORD_WORDS};
 
-/// What stands in the lent words, and in the text by its lowest byte, before a reading: what might be taken for numbers
-/// of records, or for counts.
+/// What stands in the lent words, and in the text by its lowest byte, before a reading: what might
+/// be taken for numbers of records, or for counts.
 const BEFORE: [fn(usize) -> u32; 4] = [
     |_| 7,
     |_| u32::MAX,
-    |place| (place / WIDTH) as u32,
+    |place| (place / RECORD_WORDS) as u32,
     |place| (place * 31 % 67) as u32,
 ];
 
@@ -82,7 +81,11 @@ impl Readings<'_> {
         let mut records: Vec<u32> = (0..words).map(before).collect();
         let mut text: Vec<u8> = (0..bytes).map(|place| before(place) as u8).collect();
         let expected = model::read(settings(self.config), self.input, &records, &text);
-        let reading = qs::parse(self.config, self.input, &mut records, &mut text);
+        let lent = Lent {
+            records: &mut records,
+            text: &mut text,
+        };
+        let reading = raw::parse(ticket(self.config, self.input), lent);
         let got = outcome(reading, records, text);
         self.counts.answers[got.number as usize] += 1;
         if let Some(difference) = difference(&got, &expected) {
@@ -93,7 +96,8 @@ impl Readings<'_> {
         got
     }
 
-    /// With buffers that always suffice; and the crate's tree, or its refusal and place, where it has the settings too.
+    /// With buffers that always suffice; and the crate's tree, or its refusal and place, where it
+    /// has the settings too.
     fn compare_ample(&mut self) -> Outcome {
         let (words, bytes) = qs::room(self.input.len());
         let got = self.compare(words, bytes);
@@ -109,18 +113,24 @@ impl Readings<'_> {
         got
     }
 
-    /// With records from just below what is used up to what always suffices, some of them with words left over, and
-    /// then with scant text.
+    /// With records from just below what is used up to what always suffices, some of them with
+    /// words left over, and then with scant text.
     fn compare_scant(&mut self) {
         let ample = self.compare_ample();
         assert_eq!(ample.number, refusal::ACCEPTED, "{}", self.name);
         let (used, bytes) = (ample.records as usize, ample.bytes as usize);
         for records in scant_records(used) {
-            self.compare(records * WIDTH + records % WIDTH, bytes + records % 3);
+            self.compare(
+                records * RECORD_WORDS + records % RECORD_WORDS,
+                bytes + records % 3,
+            );
         }
         for less in [1, 2, 9, bytes / 10, bytes / 3] {
-            self.compare((self.input.len() + 1) * WIDTH, bytes.saturating_sub(less));
-            self.compare(2 * used * WIDTH, bytes.saturating_sub(less));
+            self.compare(
+                (self.input.len() + 1) * RECORD_WORDS,
+                bytes.saturating_sub(less),
+            );
+            self.compare(2 * used * RECORD_WORDS, bytes.saturating_sub(less));
         }
     }
 }
@@ -136,7 +146,7 @@ fn difference(got: &Outcome, expected: &Outcome) -> Option<String> {
     }
     if let Some(place) = first_difference(&got.words, &expected.words) {
         let (got, expected) = (got.words.get(place), expected.words.get(place));
-        let (record, word) = (place / WIDTH, place % WIDTH);
+        let (record, word) = (place / RECORD_WORDS, place % RECORD_WORDS);
         return Some(format!(
             "word {word} of record {record} is {got:?}, not {expected:?}"
         ));
@@ -157,9 +167,9 @@ fn first_difference<T: PartialEq>(a: &[T], b: &[T]) -> Option<usize> {
     (0..a.len().max(b.len())).find(|&place| a.get(place) != b.get(place))
 }
 
-/// Numbers of records to lend where so many are used: too few and just enough; such that aids end in the middle; those
-/// around where they last to the end, which is when two thirds of what is lent are used; more; and those around the
-/// fewest that have aids at all.
+/// Numbers of records to lend where so many are used: too few and just enough; such that aids end
+/// in the middle; those around where they last to the end, which is when two thirds of what is lent
+/// are used; more; and those around the fewest that have aids at all.
 fn scant_records(used: usize) -> Vec<usize> {
     let turning = used * 3 / 2;
     let parts = [9, 10, 11, 14, 16, 20, 24].map(|eighths| used * eighths / 8);
@@ -183,7 +193,7 @@ fn every_order_and_shape(count: usize, mut check: impl FnMut(String, &[u8])) {
         let nesting = NESTINGS[turn % NESTINGS.len()];
         let name = format!("{} {}, {}, {}", count, shape.0, order.0, nesting.name);
         let pairs = nesting.pairs(count, order.1, shape.1);
-        check(name, &joined(Config::MAX_LEN, pairs));
+        check(name, &joined(qs::MAX_LEN, pairs));
     }
 }
 
@@ -195,7 +205,7 @@ fn thousands_of_keys() {
     });
     for (name, shape) in SHAPES {
         let pairs = NESTINGS[0].pairs(times(3_000).min(4_000), orders::shuffled, shape);
-        let input = joined(Config::MAX_LEN, pairs);
+        let input = joined(qs::MAX_LEN, pairs);
         for config in both_zeros(Config::default()) {
             let mut readings = counts.of(format!("many {name}"), &input);
             readings.config = config;
@@ -214,7 +224,8 @@ fn scant_buffers() {
     counts.report(&SCANT);
 }
 
-/// Few keys everywhere, with every number of records up to three times what is used: so aids end at each place.
+/// Few keys everywhere, with every number of records up to three times what is used: so aids end at
+/// each place.
 #[test]
 fn every_number_of_records() {
     const PAIRS: usize = 46;
@@ -223,7 +234,7 @@ fn every_number_of_records() {
         let mut readings = counts.of(name, input);
         let ample = readings.compare_ample();
         for records in 1..3 * ample.records as usize + 8 {
-            readings.compare(records * WIDTH + records % WIDTH, input.len());
+            readings.compare(records * RECORD_WORDS + records % RECORD_WORDS, input.len());
         }
     };
     for nesting in NESTINGS {
@@ -231,19 +242,16 @@ fn every_number_of_records() {
             let order = ORDERS[turn % ORDERS.len()];
             let pairs = nesting.pairs(PAIRS, order.1, shape.1);
             let name = format!("{}, {}, {}", shape.0, order.0, nesting.name);
-            check(name, &joined(Config::MAX_LEN, pairs));
+            check(name, &joined(qs::MAX_LEN, pairs));
         }
     }
     for (style, pair) in TURNS.iter().enumerate() {
         let pairs = (0..PAIRS).map(|turn| pair(turn % 5, turn));
-        check(format!("turns {style}"), &joined(Config::MAX_LEN, pairs));
+        check(format!("turns {style}"), &joined(qs::MAX_LEN, pairs));
     }
     for (style, pair) in EMPTY_KEYS.iter().enumerate() {
         let pairs = (0..PAIRS).map(pair);
-        check(
-            format!("empty keys {style}"),
-            &joined(Config::MAX_LEN, pairs),
-        );
+        check(format!("empty keys {style}"), &joined(qs::MAX_LEN, pairs));
     }
     counts.report(&[refusal::ACCEPTED, refusal::TOO_FEW_RECORDS]);
 }
@@ -287,7 +295,7 @@ fn in_turns() {
     for (style, pair) in TURNS.iter().enumerate() {
         for names in [1, 2, 3, 5, 30, 63, 64, 65, 300] {
             let pairs = (0..700).map(|turn| pair(turn % names, turn));
-            let input = joined(Config::MAX_LEN, pairs);
+            let input = joined(qs::MAX_LEN, pairs);
             let name = format!("{names} names in turns, style {style}");
             counts.of(name, &input).compare_scant();
         }
@@ -295,8 +303,8 @@ fn in_turns() {
     counts.report(&SCANT);
 }
 
-/// Two sequences, or two maps, whose records' numbers are a power of two from each other, in turns of one value and of
-/// three.
+/// Two sequences, or two maps, whose records' numbers are a power of two from each other, in turns
+/// of one value and of three.
 #[test]
 fn powers_of_two_apart() {
     let mut counts = Counts::new();
@@ -304,18 +312,19 @@ fn powers_of_two_apart() {
         for run in [1, 3] {
             let name = |turn: usize| ["a", "b"][turn / run % 2];
             let elements = (0..400).map(|turn| format!("{}[]={turn}", name(turn)));
-            let input = apart(Config::MAX_LEN, 1 << power, ["a[]=1", "b[]=1"], elements);
+            let input = apart(qs::MAX_LEN, 1 << power, ["a[]=1", "b[]=1"], elements);
             let title = |what| format!("{what} {} apart, runs of {run}", 1 << power);
             counts.of(title("sequences"), &input).compare_scant();
             let keys = (0..400).map(|turn| format!("{}[k{}]", name(turn), turn * 7 % 401));
-            let input = apart(Config::MAX_LEN, 1 << power, ["a[x]=1", "b[x]=1"], keys);
+            let input = apart(qs::MAX_LEN, 1 << power, ["a[x]=1", "b[x]=1"], keys);
             counts.of(title("maps"), &input).compare_scant();
         }
     }
     counts.report(&SCANT);
 }
 
-/// Pairs of which some give a map itself a value, which goes under its empty key: behind Ints and before Strings.
+/// Pairs of which some give a map itself a value, which goes under its empty key: behind Ints and
+/// before Strings.
 const EMPTY_KEYS: [fn(usize) -> String; 9] = [
     |i| either(i < 300, format!("a[{i}]=1"), "a=2"),
     |i| either(i < 20, format!("a[{i}]=1"), "a"),
@@ -357,7 +366,7 @@ fn either(first: bool, pair: String, value: &str) -> String {
 fn empty_keys() {
     let mut counts = Counts::new();
     for (style, pair) in EMPTY_KEYS.iter().enumerate() {
-        let input = joined(Config::MAX_LEN, (0..600).map(pair));
+        let input = joined(qs::MAX_LEN, (0..600).map(pair));
         let name = format!("empty keys, style {style}");
         counts.of(name, &input).compare_scant();
     }
@@ -371,7 +380,7 @@ fn random_mixtures() {
     for turn in 0..times(1_500) {
         let most = [60, 60, 150, 400][random.below(4)];
         let input = mixture(&mut random, most);
-        let input = &input[..input.len().min(Config::MAX_LEN)];
+        let input = &input[..input.len().min(qs::MAX_LEN)];
         let mut readings = counts.of(format!("mixture {turn}"), input);
         if random.below(4) == 0 {
             readings.config = random_config(&mut random);
@@ -383,17 +392,21 @@ fn random_mixtures() {
             _ => input.len(),
         };
         for _ in 0..4 {
-            readings.compare(WIDTH + random.below(WIDTH * most + 40), input.len());
+            readings.compare(
+                RECORD_WORDS + random.below(RECORD_WORDS * most + 40),
+                input.len(),
+            );
         }
         if bytes > 0 {
-            readings.compare(2 * used * WIDTH, random.below(bytes + 1));
+            readings.compare(2 * used * RECORD_WORDS, random.below(bytes + 1));
         }
     }
     let met = [4, 5, 6, 7, 8, 9, 10, 11];
     counts.report(&[&SCANT[..], &met].concat());
 }
 
-/// The first, the last and a middle field of long inputs, as texts and as lists, with ample records and with fewer.
+/// The first, the last and a middle field of long inputs, as texts and as lists, with ample records
+/// and with fewer.
 #[test]
 fn fields() {
     let mut numbers = Vec::new();
@@ -403,7 +416,7 @@ fn fields() {
         for pair in [pairs[0], pairs[pairs.len() / 2], pairs[pairs.len() - 1]] {
             let end = pair.iter().position(|byte| b"=[".contains(byte));
             let name = &pair[..end.unwrap_or(pair.len())];
-            let ample = WIDTH * (input.len() + 1);
+            let ample = RECORD_WORDS * (input.len() + 1);
             for config in both_zeros(crate_config(*depth, false)) {
                 for words in [ample, ample / 2, ample / 4] {
                     compare_text(config, &input, name, words);
@@ -426,7 +439,11 @@ fn fields() {
 fn compare_text(config: Config, input: &[u8], name: &[u8], words: usize) {
     let (before, text_before) = (vec![7; words], vec![7; input.len()]);
     let (mut records, mut text) = (before.clone(), text_before.clone());
-    let read = qs::text(config, TakeLast, input, name, &mut records, &mut text);
+    let lent = Lent {
+        records: &mut records,
+        text: &mut text,
+    };
+    let read = raw::text(ticket(config, input), name, lent);
     let expected = model::text(settings(config), false, input, name, &before, &text_before);
     let what = format!("text '{}', {words} words", name.escape_ascii());
     let got = outcome(read.reading, records, text);
@@ -438,18 +455,14 @@ fn compare_text(config: Config, input: &[u8], name: &[u8], words: usize) {
 /// A list read of a field against the model's. Gives what it answers.
 fn compare_list(config: Config, input: &[u8], name: &[u8], words: usize) -> u32 {
     let (before, text_before) = (vec![7; words], vec![7; input.len()]);
-    let list_before = vec![7; 2 * input.len()];
+    let list_before = vec![7; qs::list_room(input.len())];
     let (mut records, mut text) = (before.clone(), text_before.clone());
     let mut list = list_before.clone();
-    let read = qs::list(
-        config,
-        TakeLast,
-        input,
-        name,
-        &mut records,
-        &mut text,
-        &mut list,
-    );
+    let lent = Lent {
+        records: &mut records,
+        text: &mut text,
+    };
+    let read = raw::list(ticket(config, input), name, lent, &mut list);
     let settings = settings(config);
     let expected = model::list(
         settings,

@@ -1,22 +1,21 @@
-//! Whole inputs beside the URL Standard's parser: each row of docs/DIFFERENCES.md's first table, and that no difference is left
-//! outside of its rows.
+//! Whole inputs beside the URL Standard's parser: each row of docs/DIFFERENCES.md's first table,
+//! and that no difference is left outside of its rows.
 
 mod common;
 
 use common::inputs::query;
 use common::rows::{expected, leaves, Expected, Row};
 use common::whatwg::{pairs, splits_as_the_standard};
-use common::{crate_config, every_string, times, tree, Random};
-use qs::{refusal, Config};
+use common::{crate_config, every_string, owned, ticket, times, Random, NUMBERS};
+use qs::{refusal, Buffers, Config, Refused};
 use serde_qs_reference::{Key, Tree};
 
 /// The tree that an input gives here, or the refusal's number and place.
 fn read(config: Config, input: &[u8]) -> Result<Tree, (u32, u32)> {
-    let (mut records, mut text) = qs::buffers(input.len());
-    let reading = qs::parse(config, input, &mut records, &mut text);
-    match reading.number {
-        refusal::ACCEPTED => Ok(tree(&records, &text)),
-        number => Err((number, reading.place)),
+    let mut buffers = Buffers::for_len(input.len());
+    match ticket(config, input).parse(&mut buffers) {
+        Ok(reading) => Ok(owned(reading.tree())),
+        Err(Refused { refusal, place }) => Err((refusal.number(), place)),
     }
 }
 
@@ -210,21 +209,23 @@ fn beside_the_rows() {
 #[test]
 fn limits() {
     let deep = Config {
-        depth: Config::MAX_DEPTH + 1,
+        depth: qs::MAX_DEPTH + 1,
         ..Config::default()
     };
     assert_eq!(read(deep, b""), Err((1, 0)));
 }
 
-/// Inputs at each setting: what is read here is what the rows make of the standard's pairs. No input is skipped.
+/// Inputs at each setting: what is read here is what the rows make of the standard's pairs. No
+/// input is skipped.
 struct Search {
     inputs: usize,
     accepted: usize,
     /// By number.
-    refused: [usize; refusal::ALL.len()],
+    refused: [usize; NUMBERS],
     /// Readings in which no row is at work.
     without: usize,
-    /// For each row in how many readings it is at work, and how long the shortest input of those is.
+    /// For each row in how many readings it is at work, and how long the shortest input of those
+    /// is.
     rows: [(usize, usize); Row::COUNT],
 }
 
@@ -233,7 +234,7 @@ impl Search {
         Search {
             inputs: 0,
             accepted: 0,
-            refused: [0; refusal::ALL.len()],
+            refused: [0; NUMBERS],
             without: 0,
             rows: [(0, usize::MAX); Row::COUNT],
         }
@@ -286,7 +287,8 @@ impl Search {
     }
 }
 
-/// Pieces of an input: `B` and `D` stand for escaped brackets, which the form flag tells from other escapes.
+/// Pieces of an input: `B` and `D` stand for escaped brackets, which the form flag tells from other
+/// escapes.
 fn spelled(pieces: &[u8]) -> Vec<u8> {
     let mut input = Vec::new();
     for piece in pieces {

@@ -1,18 +1,19 @@
-//! Field reads, `qs_text` and `qs_list`: held against the crate's own deserializer (numbers, and the bytes that offsets and lengths
-//! give) and against the model (every count, word and byte, any name, and buffers of every small size). `COMPARE=whole` in the
-//! environment makes the random part twenty times as large.
+//! Field reads, `qs_text` and `qs_list`: held against the crate's own deserializer (numbers, and
+//! the bytes that offsets and lengths give) and against the model (every count, word and byte, any
+//! name, and buffers of every small size). `COMPARE=whole` in the environment makes the random part
+//! twenty times as large.
 
 mod common;
 
 use common::inputs::{fields_query, query, BYTES, NAMES};
 use common::{
-    crate_config, every_string, lent, outcome, parsed, random_config, random_crate_config,
+    crate_config, every_string, lent, outcome, parsed, part, random_config, random_crate_config,
     random_duplicates, reference_is_there, settings, times, Numbers, Random, BEFORE,
 };
 use model::{FieldOutcome, Outcome};
-use qs::row::{part, WIDTH};
+use qs::raw::{self, FieldRead};
 use qs::DuplicateKeyBehavior::{self, Error, TakeLast};
-use qs::{refusal, Config, FieldRead};
+use qs::{refusal, Config, Lent, Ticket, ELEMENT_WORDS, RECORD_WORDS};
 use serde_qs_reference::{Key, Tree};
 
 /// What a text read and a list read mean: bytes, or the refusal's number.
@@ -52,32 +53,33 @@ struct Read<'a> {
     name: &'a [u8],
 }
 
-impl Read<'_> {
+impl<'a> Read<'a> {
+    fn ticket(self) -> Ticket<'a> {
+        Ticket {
+            input: self.input,
+            config: self.config,
+            duplicates: self.duplicates,
+        }
+    }
+
     /// What `qs_text` answers and leaves. It is lent no list.
     fn text(self, sizes: Sizes) -> FieldOutcome {
         let (mut words, mut text, _) = sizes.buffers();
-        let read = qs::text(
-            self.config,
-            self.duplicates,
-            self.input,
-            self.name,
-            &mut words,
-            &mut text,
-        );
+        let lent = Lent {
+            records: &mut words,
+            text: &mut text,
+        };
+        let read = raw::text(self.ticket(), self.name, lent);
         field_outcome(read, words, text, Vec::new())
     }
 
     fn list(self, sizes: Sizes) -> FieldOutcome {
         let (mut words, mut text, mut list) = sizes.buffers();
-        let read = qs::list(
-            self.config,
-            self.duplicates,
-            self.input,
-            self.name,
-            &mut words,
-            &mut text,
-            &mut list,
-        );
+        let lent = Lent {
+            records: &mut words,
+            text: &mut text,
+        };
+        let read = raw::list(self.ticket(), self.name, lent, &mut list);
         field_outcome(read, words, text, list)
     }
 
@@ -149,7 +151,7 @@ fn list_meant(outcome: &FieldOutcome) -> Result<Vec<Vec<u8>>, u32> {
     match outcome.reading.number {
         refusal::ACCEPTED => Ok(outcome
             .list
-            .chunks_exact(2)
+            .chunks_exact(ELEMENT_WORDS)
             .take(outcome.length as usize)
             .map(|word| part(&outcome.reading.text, word[0], word[1]).to_vec())
             .collect()),
@@ -177,7 +179,8 @@ impl Counts {
         );
     }
 
-    /// With any buffers: all that the model says, and after a reading accepts its counts, words and text.
+    /// With any buffers: all that the model says, and after a reading accepts its counts, words and
+    /// text.
     fn with_the_model(&mut self, read: Read, sizes: Sizes) -> (FieldOutcome, FieldOutcome) {
         let (text, list) = (read.text(sizes), read.list(sizes));
         self.text.count(text.reading.number);
@@ -296,7 +299,7 @@ fn random_names_and_buffers() {
             name: &name,
         };
         let sizes = Sizes {
-            words: random.below(18 * WIDTH),
+            words: random.below(18 * RECORD_WORDS),
             bytes: random.below(24),
             list: random.below(12),
         };
@@ -386,12 +389,22 @@ fn a_field_of_the_wrong_kind_with_any_slice() {
 /// Refusals 1 to 3 leave every buffer as it was.
 #[test]
 fn untouched_buffers() {
-    let long = [b'&'; Config::MAX_LEN + 1];
-    let deep = crate_config(Config::MAX_DEPTH + 1, false);
+    let long = [b'&'; qs::MAX_LEN + 1];
+    let deep = crate_config(qs::MAX_DEPTH + 1, false);
     let cases: [(Config, &[u8], usize, u32); 3] = [
-        (deep, b"a=1", 8 * WIDTH, refusal::TOO_DEEP),
-        (Config::default(), &long, 8 * WIDTH, refusal::TOO_LONG),
-        (Config::default(), b"a=1", WIDTH - 1, refusal::NO_RECORD),
+        (deep, b"a=1", 8 * RECORD_WORDS, refusal::TOO_DEEP),
+        (
+            Config::default(),
+            &long,
+            8 * RECORD_WORDS,
+            refusal::TOO_LONG,
+        ),
+        (
+            Config::default(),
+            b"a=1",
+            RECORD_WORDS - 1,
+            refusal::NO_RECORD,
+        ),
     ];
     let mut counts = Counts::default();
     for (config, input, words, number) in cases {
@@ -427,7 +440,7 @@ fn read(input: &[u8], name: &[u8], duplicates: DuplicateKeyBehavior) -> Meant {
     (text_meant(&read.text(sizes)), list_meant(&read.list(sizes)))
 }
 
-/// Document 01's rules for texts, one by one.
+/// The rules for texts (READING, 'Field reads'), one by one.
 #[test]
 fn named_texts() {
     let text = |input: &str, name: &str, duplicates| {
@@ -452,7 +465,7 @@ fn named_texts() {
     assert_eq!(text("a=%C3&a=1", "a", Error), Err(19));
 }
 
-/// Document 01's rules for lists, one by one.
+/// The rules for lists (READING, 'Field reads'), one by one.
 #[test]
 fn named_lists() {
     let list = |input: &str, name: &str, duplicates| {
@@ -474,8 +487,8 @@ fn named_lists() {
     assert_eq!(list("=x", "", TakeLast), texts(&["x"]));
 }
 
-// The four classes of reads in which a derived struct differs from document 01, with the smallest input of each
-// (docs/DIFFERENCES.md).
+// The four classes of reads in which a derived struct differs from ours, with the smallest input of
+// each (docs/DIFFERENCES.md).
 
 /// An Int key is no name here; a struct compares its names with the decimal of an Int key too.
 #[test]

@@ -1,6 +1,7 @@
-//! Keys of digits: which of them are Ints, and of what value, wherever a key stands. The tree of every input is held against
-//! the key rule said in another way (by the text of the digits, without a sum), against the crate and, with all its words and
-//! bytes, against the model. `COMPARE=whole` in the environment makes the random part twenty times as large.
+//! Keys of digits: which of them are Ints, and of what value, wherever a key stands. The tree of
+//! every input is held against the key rule said in another way (by the text of the digits, without
+//! a sum), against the crate and, with all its words and bytes, against the model. `COMPARE=whole`
+//! in the environment makes the random part twenty times as large.
 
 mod common;
 
@@ -13,8 +14,8 @@ use serde_qs_reference::{decode, Key, Tree};
 /// The greatest Int, as it is written.
 const MAX_INT: &[u8] = b"4294967295";
 
-/// The key of a segment that isn't empty: an Int if it is digits, and these, without the zeros in front, are fewer than
-/// those of the greatest Int or stand not behind them.
+/// The key of a segment that isn't empty: an Int if it is digits, and these, without the zeros in
+/// front, are fewer than those of the greatest Int or stand not behind them.
 fn key_of(raw: &[u8]) -> Key {
     let zeros = raw.iter().take_while(|&&byte| byte == b'0').count();
     let digits = &raw[zeros..];
@@ -27,8 +28,9 @@ fn key_of(raw: &[u8]) -> Key {
     Key::Int(digits.parse().unwrap_or(0))
 }
 
-/// One of the keys on the way to a value: another one; the one in question; or, at the depth, where brackets are kept, what
-/// is written before it, itself and what is written behind it, which is a String.
+/// One of the keys on the way to a value: another one; the one in question; or, at the depth, where
+/// brackets are kept, what is written before it, itself and what is written behind it, which is a
+/// String.
 enum Step {
     Other(&'static str),
     Own,
@@ -36,7 +38,8 @@ enum Step {
 }
 use Step::{Kept, Other, Own};
 
-/// A place for a key: the settings, what is written before it and behind it, and the keys that lead to the value.
+/// A place for a key: the settings, what is written before it and behind it, and the keys that lead
+/// to the value.
 struct Place {
     config: Config,
     before: &'static str,
@@ -209,8 +212,8 @@ const INTS: [(usize, &str, u32); 11] = [
     (40, "4294967295", u32::MAX),
 ];
 
-/// Segments, by the zeros in front and the rest, that are no Ints, though they would be if the sum wrapped or if another test
-/// of digits were made.
+/// Segments, by the zeros in front and the rest, that are no Ints, though they would be if the sum
+/// wrapped or if another test of digits were made.
 const STRINGS: [(usize, &str); 31] = [
     (0, "4294967296"),
     (40, "4294967296"),
@@ -219,7 +222,8 @@ const STRINGS: [(usize, &str); 31] = [
     (0, "5000000000"),
     (0, "9999999999"),
     (0, "10000000000"),
-    // 7 more than 2 to the 32, and than ten times that; the same of 64 bits and of 128: a sum that wraps comes to 7
+    // 7 more than 2 to the 32, and than ten times that; the same of 64 bits and of 128: a sum that
+    // wraps comes to 7
     (0, "4294967303"),
     (0, "42949672967"),
     (0, "18446744073709551623"),
@@ -303,8 +307,8 @@ fn every_byte_beside_digits() {
     counts.report("every byte");
 }
 
-/// Numbers around those where a sum, in 32 or 64 bits, would wrap or its number of digits changes, with zeros in front and
-/// digits behind.
+/// Numbers around those where a sum, in 32 or 64 bits, would wrap or its number of digits changes,
+/// with zeros in front and digits behind.
 #[test]
 fn around_the_limits() {
     if !reference_is_there() {
@@ -357,7 +361,7 @@ fn the_longest_keys() {
         return;
     }
     let mut counts = Counts::default();
-    let longest = Config::MAX_LEN - b"a[b][][]=v".len();
+    let longest = qs::MAX_LEN - b"a[b][][]=v".len();
     for raw in [
         padded(longest - 1, "7"),
         padded(longest - 10, "4294967295"),
@@ -369,7 +373,8 @@ fn the_longest_keys() {
     counts.report("the longest keys");
 }
 
-/// One number is one key, however it is written; what is too large is another key than what it would wrap to.
+/// One number is one key, however it is written; what is too large is another key than what it
+/// would wrap to.
 #[test]
 fn spellings_of_a_number() {
     if !reference_is_there() {

@@ -1,4 +1,5 @@
-//! The listing program, run as it was built and proved: what it prints, held against a listing made here of what the model reads.
+//! The listing program, run as it was built and proved: what it prints, held against a listing made
+//! here of what the model reads.
 
 mod common;
 
@@ -176,8 +177,8 @@ fn depths() {
     }
 }
 
-/// The queries of the stored cases (crates/replay/FORMAT.md), document 01's "Tickets to try" among them: here all have the room that the
-/// program lends.
+/// The queries of the stored cases (crates/replay/FORMAT.md), those of READING, 'Examples', among
+/// them: here all have the room that the program lends.
 #[test]
 fn stored_queries() {
     let Some(program) = program() else { return };
@@ -230,11 +231,14 @@ fn longest(pairs: usize, pair: impl Fn(usize) -> String) -> Vec<u8> {
     query
 }
 
+/// A pair by its number.
+type Pair = fn(usize) -> String;
+
 #[test]
 fn the_largest_trees() {
     let Some(program) = program() else { return };
     // with the records that stand above the pairs' own
-    let kinds: [(usize, fn(usize) -> String); 5] = [
+    let kinds: [(usize, Pair); 5] = [
         (1, |i| format!("{i:k>31}")),
         (1, |i| format!("{}=v", 4_294_960_000 + i as u64)),
         (1, |i| format!("[{i:k>28}]=")),

@@ -1,20 +1,24 @@
-//! `qs_fields`, the texts of many names from one reading. Held against the model: its own answer, every word of the records, every
-//! byte of the text and every answer word, with ends of every sort and any number of words lent. Held against `qs_text` of each name
-//! over buffers of the same sizes, and against the crate's own deserializer. `COMPARE=whole` in the environment makes the random part
-//! twenty times as large.
+//! `qs_fields`, the texts of many names from one reading. Held against the model: its own answer,
+//! every word of the records, every byte of the text and every answer word, with ends of every sort
+//! and any number of words lent. Held against `qs_text` of each name over buffers of the same
+//! sizes, and against the crate's own deserializer. `COMPARE=whole` in the environment makes the
+//! random part twenty times as large.
 
 mod common;
 
 use common::inputs::{fields_query, query, BYTES, NAMES};
 use common::kinds::{Kind, USUAL};
 use common::{
-    crate_config, every_string, lent, outcome, parsed, random_config, random_crate_config,
-    random_duplicates, reference_is_there, settings, times, tree, Numbers, Random, BEFORE,
+    crate_config, every_string, laid_out, lent, outcome, parsed, part, random_config,
+    random_crate_config, random_duplicates, reference_is_there, settings, ticket, times, tree,
+    Numbers, Random, BEFORE, SMALL_WORDS,
 };
 use model::{FieldsOutcome, Outcome};
-use qs::row::{part, WIDTH};
 use qs::DuplicateKeyBehavior::{self, Error, TakeLast};
-use qs::{laid_out, refusal, Config, Names, ANSWER_WORDS};
+use qs::{
+    raw, refusal, Buffers, Config, Lent, Names, NamesBuf, Refusal, Refused, Ticket, ANSWER_WORDS,
+    RECORD_WORDS,
+};
 use serde_qs_reference::{Key, Tree};
 
 /// The buffers' sizes: words, bytes of text, and words for the answers.
@@ -26,7 +30,8 @@ struct Sizes {
 }
 
 impl Sizes {
-    /// They suffice for every input of so many bytes and so many names, with two answer words to spare.
+    /// They suffice for every input of so many bytes and so many names, with two answer words to
+    /// spare.
     fn ample(length: usize, names: usize) -> Self {
         let (words, bytes) = qs::room(length);
         let answers = ANSWER_WORDS * names + 2;
@@ -69,18 +74,22 @@ fn names((bytes, ends): &(Vec<u8>, Vec<u32>)) -> Names<'_> {
 }
 
 impl<'a> Asked<'a> {
+    fn ticket(self) -> Ticket<'a> {
+        Ticket {
+            input: self.input,
+            config: self.config,
+            duplicates: self.duplicates,
+        }
+    }
+
     /// What `qs_fields` answers and leaves.
     fn fields(self, sizes: Sizes) -> FieldsOutcome {
         let (mut words, mut text, mut answers) = sizes.before();
-        let reading = qs::fields_into(
-            self.config,
-            self.duplicates,
-            self.input,
-            self.names,
-            &mut words,
-            &mut text,
-            &mut answers,
-        );
+        let lent = Lent {
+            records: &mut words,
+            text: &mut text,
+        };
+        let reading = raw::fields(self.ticket(), self.names, lent, &mut answers);
         let reading = outcome(reading, words, text);
         FieldsOutcome { reading, answers }
     }
@@ -99,17 +108,15 @@ impl<'a> Asked<'a> {
         )
     }
 
-    /// What `qs_text` of one name answers, as answer words; and the reading's answer, with what is left.
+    /// What `qs_text` of one name answers, as answer words; and the reading's answer, with what is
+    /// left.
     fn single(self, name: &[u8], sizes: Sizes) -> ([u32; ANSWER_WORDS], Outcome) {
         let (mut words, mut text) = lent(sizes.words, sizes.bytes);
-        let read = qs::text(
-            self.config,
-            self.duplicates,
-            self.input,
-            name,
-            &mut words,
-            &mut text,
-        );
+        let lent = Lent {
+            records: &mut words,
+            text: &mut text,
+        };
+        let read = raw::text(self.ticket(), name, lent);
         let answer = [read.reading.number, read.offset, read.length];
         (answer, outcome(read.reading, words, text))
     }
@@ -160,7 +167,8 @@ struct Counts {
 }
 
 impl Counts {
-    /// With any ends and buffers: all that the model says, what a reading leaves, and what single reads answer and leave.
+    /// With any ends and buffers: all that the model says, what a reading leaves, and what single
+    /// reads answer and leave.
     fn compare(&mut self, asked: Asked, sizes: Sizes) -> FieldsOutcome {
         let described = || format!("{sizes:?} {}", asked.described());
         let got = asked.fields(sizes);
@@ -183,7 +191,8 @@ impl Counts {
         got
     }
 
-    /// A reading, of which records and text are those of `qs_parse`, and each answer is that of `qs_text`. A refused one has none.
+    /// A reading, of which records and text are those of `qs_parse`, and each answer is that of
+    /// `qs_text`. A refused one has none.
     fn with_single_reads(&mut self, asked: Asked, sizes: Sizes, got: &Outcome, answers: &[u32]) {
         let described = || format!("{sizes:?} {}", asked.described());
         let reading = parsed(asked.config, asked.input, sizes.words, sizes.bytes);
@@ -310,8 +319,8 @@ fn random_names(random: &mut Random) -> Vec<Vec<u8>> {
     names
 }
 
-/// Such names laid out, in some cases with bytes behind the last end, and in five cases out of eight with wrong ends: one of them,
-/// wherever it stands, or all of them any numbers.
+/// Such names laid out, in some cases with bytes behind the last end, and in five cases out of
+/// eight with wrong ends: one of them, wherever it stands, or all of them any numbers.
 fn random_layout(random: &mut Random) -> (Vec<u8>, Vec<u32>) {
     let (mut bytes, mut ends) = laid_out(&random_names(random));
     if random.below(3) == 0 {
@@ -354,7 +363,7 @@ fn random_names_ends_and_buffers() {
     for turn in 0..times(60_000) {
         let mut config = random_config(&mut random);
         if random.below(32) == 0 {
-            config.depth = Config::MAX_DEPTH + 1;
+            config.depth = qs::MAX_DEPTH + 1;
         }
         let pairs = 1 + random.below(6);
         let input = match turn % 3 {
@@ -366,7 +375,7 @@ fn random_names_ends_and_buffers() {
         let sizes = match turn % 2 {
             0 => Sizes::ample(input.len(), 0),
             _ => Sizes {
-                words: random.below(18 * WIDTH),
+                words: random.below(18 * RECORD_WORDS),
                 bytes: random.below(24),
                 answers,
             },
@@ -391,10 +400,9 @@ fn random_names_ends_and_buffers() {
 fn every_small_buffer() {
     let mut counts = Counts::default();
     let laid = laid_out(&["a", "", "a"]);
-    let words = [0, WIDTH - 1, WIDTH, 2 * WIDTH - 1, 2 * WIDTH, 4 * WIDTH];
     let answers = [9, 10, 11];
     let mut sizes = Vec::new();
-    for (words, bytes) in words
+    for (words, bytes) in SMALL_WORDS
         .iter()
         .flat_map(|&words| (0..4).map(move |bytes| (words, bytes)))
     {
@@ -428,7 +436,8 @@ fn every_small_buffer() {
 /// A ticket with every part of `abc` as a name.
 const PARTS: &[u8] = b"a=1&ab=2&abc=3&b=4&bc=5&c=6&=7";
 
-/// Every list of up to 4 ends that lie in three bytes of names or pass them, and every number of answer words around what it needs.
+/// Every list of up to 4 ends that lie in three bytes of names or pass them, and every number of
+/// answer words around what it needs.
 #[test]
 fn every_list_of_ends() {
     const LENGTH: u32 = 3;
@@ -487,13 +496,13 @@ impl Met {
 
     fn input(self) -> Vec<u8> {
         let end = [&b"a=1"[..], b"a["][self.count(refusal::END_AFTER_OPENING)];
-        let start = Config::MAX_LEN * self.count(refusal::TOO_LONG);
+        let start = qs::MAX_LEN * self.count(refusal::TOO_LONG);
         [&vec![b'&'; start], end].concat()
     }
 
     /// What is asked of that input, for three names.
     fn asked(self, input: &[u8]) -> Asked<'_> {
-        let depth = Config::MAX_DEPTH + self.count(refusal::TOO_DEEP) as u32;
+        let depth = qs::MAX_DEPTH + self.count(refusal::TOO_DEEP) as u32;
         let ends = [&[1, 2, 2], &[1, 2, 1]][self.count(refusal::WRONG_ENDS)];
         Asked {
             config: crate_config(depth, false),
@@ -503,15 +512,15 @@ impl Met {
 
     fn sizes(self) -> Sizes {
         Sizes {
-            words: [3 * WIDTH, WIDTH - 1][self.count(refusal::NO_RECORD)],
+            words: [3 * RECORD_WORDS, RECORD_WORDS - 1][self.count(refusal::NO_RECORD)],
             bytes: 4,
             answers: 9 - self.count(refusal::SHORT_ANSWERS),
         }
     }
 }
 
-/// All that can be wrong at once, in every combination: the first in order stands. All but the last leave every buffer as it was, and
-/// the last the answer words.
+/// All that can be wrong at once, in every combination: the first in order stands. All but the last
+/// leave every buffer as it was, and the last the answer words.
 #[test]
 fn the_first_refusal_stands() {
     let mut counts = Counts::default();
@@ -541,7 +550,8 @@ fn the_first_refusal_stands() {
     counts.report("64 combinations of what is wrong", &all, &[0, 17]);
 }
 
-/// Each refusal of a reading from the first byte on, and by small buffers: records and text are zero, and the answer words stay.
+/// Each refusal of a reading from the first byte on, and by small buffers: records and text are
+/// zero, and the answer words stay.
 #[test]
 fn refused_readings_leave_the_answer_words() {
     let cases: [(&str, u32, u32); 12] = [
@@ -559,7 +569,7 @@ fn refused_readings_leave_the_answer_words() {
         ("abcdefghi", 15, 10),
     ];
     let sizes = Sizes {
-        words: 4 * WIDTH,
+        words: 4 * RECORD_WORDS,
         bytes: 8,
         answers: 8,
     };
@@ -594,19 +604,20 @@ fn the_last_of_many_ends() {
     }
 }
 
-/// Without names the input is read all the same, whatever bytes are lent for names and words for answers.
+/// Without names the input is read all the same, whatever bytes are lent for names and words for
+/// answers.
 #[test]
 fn an_empty_list_reads() {
     let mut counts = Counts::default();
     for (depth, input, words, number) in [
-        (5, "a=1&b[]=2", 8 * WIDTH, 0),
-        (5, "", WIDTH, 0),
-        (5, "&", WIDTH, 0),
-        (Config::MAX_DEPTH + 1, "a=1", 8 * WIDTH, 1),
-        (5, "a=1", WIDTH - 1, 3),
-        (5, "a[", 8 * WIDTH, 4),
-        (5, "a=1", WIDTH, 14),
-        (5, "a=123456789", 8 * WIDTH, 15),
+        (5, "a=1&b[]=2", 8 * RECORD_WORDS, 0),
+        (5, "", RECORD_WORDS, 0),
+        (5, "&", RECORD_WORDS, 0),
+        (qs::MAX_DEPTH + 1, "a=1", 8 * RECORD_WORDS, 1),
+        (5, "a=1", RECORD_WORDS - 1, 3),
+        (5, "a[", 8 * RECORD_WORDS, 4),
+        (5, "a=1", RECORD_WORDS, 14),
+        (5, "a=123456789", 8 * RECORD_WORDS, 15),
     ] {
         let config = crate_config(depth, false);
         let input = input.as_bytes();
@@ -630,7 +641,8 @@ fn an_empty_list_reads() {
 const MIXED: &[u8] = b"a=1&b=%C3&c=2&c=3&d[e]=4&f&=5";
 const MIXED_NAMES: [&str; 9] = ["c", "a", "x", "", "b", "d", "f", "a", "ab"];
 
-/// Each number by hand: answers stand in the order of the names, a repeated one again, and a refused one with two zeros.
+/// Each number by hand: answers stand in the order of the names, a repeated one again, and a
+/// refused one with two zeros.
 #[test]
 fn answers_by_hand() {
     let laid = laid_out(&MIXED_NAMES);
@@ -731,7 +743,8 @@ fn a_long_list() {
     counts.report("20,000 names", &[0, 25], &[0, 17, 18, 19, 21]);
 }
 
-/// Some String keys of the root, each also without its last byte and with one more; the empty name, and one that is absent.
+/// Some String keys of the root, each also without its last byte and with one more; the empty name,
+/// and one that is absent.
 fn names_around(random: &mut Random, root: &Tree) -> Vec<Vec<u8>> {
     let mut names = vec![Vec::new(), b"absent".to_vec()];
     let Tree::Map(entries) = root else {
@@ -761,7 +774,7 @@ fn kinds() {
     let mut counts = Counts::default();
     for Kind { depth, make, .. } in &USUAL {
         let config = crate_config(*depth, false);
-        let input = make(times(10_000).min(Config::MAX_LEN));
+        let input = make(times(10_000).min(qs::MAX_LEN));
         let (words, bytes) = qs::room(input.len());
         let reading = parsed(config, &input, words, bytes);
         let root = tree(&reading.words, &reading.text);
@@ -783,7 +796,7 @@ fn kinds() {
 #[test]
 fn the_longest_input() {
     let mut counts = Counts::default();
-    for (length, number) in [(Config::MAX_LEN, 0), (Config::MAX_LEN + 1, 2)] {
+    for (length, number) in [(qs::MAX_LEN, 0), (qs::MAX_LEN + 1, 2)] {
         let input = [b"a=", &vec![b'x'; length - 2][..]].concat();
         let two = Names {
             bytes: b"ba",
@@ -803,34 +816,31 @@ fn the_longest_input() {
 // The call with names as they come.
 
 /// The answers to the names of a mixed ticket, of several values the last.
-const MIXED_ANSWERS: [Result<&[u8], u32>; 9] = [
-    Ok(b"3"),
-    Ok(b"1"),
-    Err(17),
-    Ok(b"5"),
-    Err(21),
-    Err(18),
-    Ok(b""),
-    Ok(b"1"),
-    Err(17),
+const MIXED_ANSWERS: [Result<&str, Refusal>; 9] = [
+    Ok("3"),
+    Ok("1"),
+    Err(Refusal::NoSuchField),
+    Ok("5"),
+    Err(Refusal::NotUtf8),
+    Err(Refusal::WrongKind),
+    Ok(""),
+    Ok("1"),
+    Err(Refusal::NoSuchField),
 ];
 
 #[test]
 fn answers_come_in_turn() {
-    let (mut records, mut text) = qs::buffers(MIXED.len());
-    let alone = qs::parse(Config::default(), MIXED, &mut records, &mut text);
-    let fields = qs::fields(
-        Config::default(),
-        TakeLast,
-        MIXED,
-        &MIXED_NAMES,
-        &mut records,
-        &mut text,
-    );
+    let (mut buffers, mut others) = (Buffers::for_len(MIXED.len()), Buffers::for_len(MIXED.len()));
+    let (ticket, laid) = (Ticket::new(MIXED), NamesBuf::of(&MIXED_NAMES));
+    let mut answers = laid.answers();
+    let alone = ticket.parse(&mut others).expect("it is accepted");
+    let fields = ticket.fields(&laid, &mut buffers, &mut answers);
     let mut fields = fields.expect("it is accepted");
-    assert_eq!(fields.reading(), alone);
+    assert_eq!(fields.reading().records(), alone.records());
+    assert_eq!(fields.reading().text(), alone.text());
     let backwards: Vec<_> = fields.clone().rev().collect();
     assert!(backwards.iter().rev().eq(&MIXED_ANSWERS));
+    assert_eq!(format!("{fields:?}"), format!("{MIXED_ANSWERS:?}"));
     for (taken, answer) in MIXED_ANSWERS.into_iter().enumerate() {
         let left = MIXED_NAMES.len() - taken;
         assert_eq!(
@@ -843,71 +853,75 @@ fn answers_come_in_turn() {
         (fields.len(), fields.next(), fields.next_back()),
         (0, None, None)
     );
-    assert_eq!((fields.next(), fields.reading()), (None, alone));
+    assert_eq!(fields.next(), None);
 }
 
-/// From both ends, each answer comes once.
+/// From both ends, each answer comes once. Answer words past the last are none.
 #[test]
 fn answers_come_from_both_ends() {
-    let (mut records, mut text) = qs::buffers(MIXED.len());
-    let fields = qs::fields(
-        Config::default(),
-        Error,
-        MIXED,
-        &MIXED_NAMES[..3],
-        &mut records,
-        &mut text,
-    );
+    let ticket = Ticket {
+        duplicates: Error,
+        ..Ticket::new(MIXED)
+    };
+    let laid = NamesBuf::of(&MIXED_NAMES[..3]);
+    let (mut buffers, mut answers) = (Buffers::for_len(MIXED.len()), [7; 3 * ANSWER_WORDS + 4]);
+    let fields = ticket.fields(&laid, &mut buffers, &mut answers);
     let mut fields = fields.expect("it is accepted");
-    assert_eq!(fields.next_back(), Some(Err(17)));
-    assert_eq!(fields.next(), Some(Err(19)));
-    assert_eq!((fields.next_back(), fields.len()), (Some(Ok(&b"1"[..])), 0));
+    assert_eq!(fields.next_back(), Some(Err(Refusal::NoSuchField)));
+    assert_eq!(fields.next(), Some(Err(Refusal::SeveralValues)));
+    assert_eq!((fields.next_back(), fields.len()), (Some(Ok("1")), 0));
     assert_eq!((fields.next(), fields.next_back()), (None, None));
 }
 
 /// Whatever names are kept in; no names have no answers.
 #[test]
 fn names_of_every_type() {
-    fn texts<N: AsRef<[u8]>>(input: &[u8], names: &[N]) -> Result<Vec<u8>, qs::Reading> {
-        let (mut records, mut text) = qs::buffers(input.len());
-        let (config, duplicates) = (Config::default(), TakeLast);
-        let fields = qs::fields(config, duplicates, input, names, &mut records, &mut text)?;
-        Ok(fields.flatten().flatten().copied().collect())
+    fn texts<N: AsRef<[u8]>>(input: &[u8], names: &[N]) -> Result<String, Refused> {
+        let laid = NamesBuf::of(names);
+        let (mut buffers, mut answers) = (Buffers::for_len(input.len()), laid.answers());
+        let fields = Ticket::new(input).fields(&laid, &mut buffers, &mut answers)?;
+        Ok(fields.flatten().collect())
     }
+    let text = |text: &str| Ok(text.to_owned());
     let input = b"a=1&b=2&caption=Fog";
-    assert_eq!(texts(input, &[b"b", b"a"]), Ok(b"21".to_vec()));
-    assert_eq!(texts(input, &["caption", "a"]), Ok(b"Fog1".to_vec()));
-    assert_eq!(texts(input, &["b".to_owned()]), Ok(b"2".to_vec()));
+    assert_eq!(texts(input, &[b"b", b"a"]), text("21"));
+    assert_eq!(texts(input, &["caption", "a"]), text("Fog1"));
+    assert_eq!(texts(input, &["b".to_owned()]), text("2"));
     let names: Vec<Vec<u8>> = vec![b"a".to_vec(), b"caption".to_vec()];
-    assert_eq!(texts(input, &names), Ok(b"1Fog".to_vec()));
-    assert_eq!(texts(input, &[&names[1][..], b"b"]), Ok(b"Fog2".to_vec()));
-    assert_eq!(texts::<&str>(input, &[]), Ok(Vec::new()));
+    assert_eq!(texts(input, &names), text("1Fog"));
+    assert_eq!(texts(input, &[&names[1][..], b"b"]), text("Fog2"));
+    assert_eq!(texts::<&str>(input, &[]), text(""));
 }
 
 /// A refused reading is the error, with names and without.
 #[test]
 fn a_refused_reading_is_the_error() {
-    let long = [b'&'; Config::MAX_LEN + 1];
-    let cases: [(u32, &[u8], usize, u32, u32); 6] = [
-        (Config::MAX_DEPTH + 1, b"a=1", 4 * WIDTH, 1, 0),
-        (5, &long, 4 * WIDTH, 2, 0),
-        (5, b"a=1", WIDTH - 1, 3, 0),
-        (5, b"a[", 4 * WIDTH, 4, 3),
-        (5, b"a=1", WIDTH, 14, 4),
-        (5, b"abc=1", 4 * WIDTH, 15, 6),
+    let long = [b'&'; qs::MAX_LEN + 1];
+    let cases: [(u32, &[u8], usize, Refusal, u32); 6] = [
+        (
+            qs::MAX_DEPTH + 1,
+            b"a=1",
+            4 * RECORD_WORDS,
+            Refusal::TooDeep,
+            0,
+        ),
+        (5, &long, 4 * RECORD_WORDS, Refusal::TooLong, 0),
+        (5, b"a=1", RECORD_WORDS - 1, Refusal::NoRecord, 0),
+        (5, b"a[", 4 * RECORD_WORDS, Refusal::EndAfterOpening, 3),
+        (5, b"a=1", RECORD_WORDS, Refusal::TooFewRecords, 4),
+        (5, b"abc=1", 4 * RECORD_WORDS, Refusal::TooLittleText, 6),
     ];
-    for (depth, input, words, number, place) in cases {
-        let config = crate_config(depth, false);
+    for (depth, input, words, refusal, place) in cases {
+        let ticket = ticket(crate_config(depth, false), input);
         for names in [&["a"][..], &[]] {
-            let (mut records, mut text) = lent(words, 2);
-            let fields = qs::fields(config, Error, input, names, &mut records, &mut text);
-            let refused = qs::Reading {
-                number,
-                place,
-                records: 0,
-                bytes: 0,
+            let laid = NamesBuf::of(names);
+            let ((mut words, mut text), mut answers) = (lent(words, 2), laid.answers());
+            let lent = Lent {
+                records: &mut words,
+                text: &mut text,
             };
-            assert_eq!(fields.err(), Some(refused));
+            let fields = ticket.fields(&laid, lent, &mut answers);
+            assert_eq!(fields.err(), Some(Refused { refusal, place }));
         }
     }
 }
@@ -916,5 +930,5 @@ fn a_refused_reading_is_the_error() {
 #[should_panic(expected = "names of 4 GiB or more have no ends of 32 bits")]
 fn names_that_no_end_reaches() {
     static MEBIBYTE: [u8; 1 << 20] = [0; 1 << 20];
-    laid_out(&vec![&MEBIBYTE; 4_096]);
+    NamesBuf::of(&vec![&MEBIBYTE; 4_096]);
 }

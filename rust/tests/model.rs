@@ -1,6 +1,8 @@
-//! The model, held against the crate itself: with room enough it gives the crate's tree, or its refusal and place. So the model
-//! speaks for the crate where a test needs the words of the records, or small buffers, which the crate doesn't have. What the model
-//! writes of a tree gives that tree again, to the crate and to the model; `COMPARE=whole` in the environment has more of these.
+//! The model, held against the crate itself: with room enough it gives the crate's tree, or its
+//! refusal and place. So the model speaks for the crate where a test needs the words of the
+//! records, or small buffers, which the crate doesn't have. What the model writes of a tree gives
+//! that tree again, to the crate and to the model; `COMPARE=whole` in the environment has more of
+//! these.
 
 mod common;
 
@@ -67,9 +69,10 @@ fn random_inputs() {
     assert!(counts[0] > 0 && counts[1] > 0);
 }
 
-/// What the model writes of an input is accepted by the crate and has the input's tree, where the crate has the settings too, and is
-/// written in the same bytes again; the model accepts it where it isn't too long, and uses as many records and as much text as for
-/// the input. Gives whether the input is accepted.
+/// What the model writes of an input is accepted by the crate and has the input's tree, where the
+/// crate has the settings too, and is written in the same bytes again; the model accepts it where
+/// it isn't too long, and uses as many records and as much text as for the input. Gives whether the
+/// input is accepted.
 fn write_and_read(config: Config, input: &[u8]) -> bool {
     let of_the_crate =
         |ticket: &[u8]| serde_qs_reference::parse(ticket, config.depth as usize, config.form);
@@ -97,7 +100,7 @@ fn write_and_read(config: Config, input: &[u8]) -> bool {
     let (words, bytes) = qs::room(input.len());
     let first = read(config, input, &vec![7; words], &vec![7; bytes]);
     let (words, bytes) = (
-        first.records as usize * qs::row::WIDTH,
+        first.records as usize * qs::RECORD_WORDS,
         first.bytes as usize,
     );
     let again = read(config, &ticket, &vec![9; words], &vec![9; bytes]);

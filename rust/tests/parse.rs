@@ -1,5 +1,6 @@
-//! `qs_parse`, held against the crate's own `parse` (trees, numbers, places) and against the model (every word and byte, and
-//! buffers of every small size). `COMPARE=whole` in the environment makes the random part twenty times as large.
+//! `qs_parse`, held against the crate's own `parse` (trees, numbers, places) and against the model
+//! (every word and byte, and buffers of every small size). `COMPARE=whole` in the environment makes
+//! the random part twenty times as large.
 
 mod common;
 
@@ -8,8 +9,7 @@ use common::{
     both_zeros, crate_config, every_string, lent, parsed, random_config, random_crate_config,
     reference_is_there, settings, times, tree, Numbers, Random,
 };
-use qs::row::{self, WIDTH};
-use qs::{refusal, Config};
+use qs::{refusal, row, Config, RECORD_WORDS};
 
 /// How often each number was answered.
 #[derive(Default)]
@@ -85,12 +85,12 @@ fn random_and_damaged_inputs() {
     }
     for _ in 0..times(20) {
         let config = random_crate_config(&mut random);
-        let length = random.below(Config::MAX_LEN + 1);
+        let length = random.below(qs::MAX_LEN + 1);
         let input = long_query(&mut random, length);
         counts.with_the_crate(config, &input);
         let pairs = random.below(2_000);
         let input = query(&mut random, pairs);
-        counts.with_the_crate(config, &input[..input.len().min(Config::MAX_LEN)]);
+        counts.with_the_crate(config, &input[..input.len().min(qs::MAX_LEN)]);
     }
     counts.report(
         "random and damaged inputs",
@@ -101,8 +101,8 @@ fn random_and_damaged_inputs() {
 #[test]
 fn every_small_buffer() {
     let mut counts = Counts::default();
-    let short = [0, WIDTH - 1, WIDTH, 2 * WIDTH - 1];
-    let sizes = [short, [2, 3, 4, 5].map(|records| records * WIDTH)].concat();
+    let short = [0, RECORD_WORDS - 1, RECORD_WORDS, 2 * RECORD_WORDS - 1];
+    let sizes = [short, [2, 3, 4, 5].map(|records| records * RECORD_WORDS)].concat();
     for config in configs().flat_map(both_zeros) {
         every_string(b"a0[]&=%", 4, |input| {
             for &words in &sizes {
@@ -126,7 +126,7 @@ fn random_buffers() {
         let config = random_config(&mut random);
         let pairs = 1 + random.below(6);
         let input = query(&mut random, pairs);
-        let words = random.below(18 * WIDTH);
+        let words = random.below(18 * RECORD_WORDS);
         let bytes = random.below(24);
         counts.with_the_model(config, &input, words, bytes);
         let (words, bytes) = qs::room(input.len());
@@ -140,11 +140,11 @@ fn random_buffers() {
 fn limits() {
     let mut counts = Counts::default();
     let usual = Config::default();
-    let (deepest, longest) = (Config::MAX_DEPTH, Config::MAX_LEN);
+    let (deepest, longest) = (qs::MAX_DEPTH, qs::MAX_LEN);
     for depth in (deepest - 1..=deepest + 2).chain([0, 5, u32::MAX]) {
         for form in [false, true] {
             for config in both_zeros(crate_config(depth, form)) {
-                counts.with_the_model(config, b"a[b]=1", 6 * WIDTH, 12);
+                counts.with_the_model(config, b"a[b]=1", 6 * RECORD_WORDS, 12);
             }
         }
     }
@@ -153,7 +153,7 @@ fn limits() {
             let input: Vec<u8> = piece.iter().copied().cycle().take(length).collect();
             let (words, bytes) = qs::room(length);
             counts.with_the_model(usual, &input, words, bytes);
-            counts.with_the_model(usual, &input, 8 * WIDTH, 64);
+            counts.with_the_model(usual, &input, 8 * RECORD_WORDS, 64);
         }
     }
     let nested = b"a"
@@ -170,12 +170,13 @@ fn limits() {
     counts.report("both sides of each limit", &[0, 1, 2, 14]);
 }
 
-/// The cases that document 01 and the design name, executed.
+/// Cases by hand: what is charged where, spare words, both sides of the limits, and slips that are
+/// easily made.
 #[test]
 fn named_cases() {
     let usual = Config::default();
     let answer = |config, input: &str, records: usize, bytes| {
-        let outcome = parsed(config, input.as_bytes(), records * WIDTH, bytes);
+        let outcome = parsed(config, input.as_bytes(), records * RECORD_WORDS, bytes);
         (
             outcome.number,
             outcome.place,
@@ -186,10 +187,10 @@ fn named_cases() {
     assert_eq!(answer(usual, "&&a", 4, 3), (0, 0, 2, 1));
     assert_eq!(answer(usual, "ab&%61b", 8, 2), (0, 0, 4, 2));
     assert_eq!(answer(usual, "a&a", 3, 2), (14, 4, 0, 0));
-    assert_eq!(parsed(usual, b"a&a", 4 * WIDTH, 2).text, [b'a', 0]);
+    assert_eq!(parsed(usual, b"a&a", 4 * RECORD_WORDS, 2).text, [b'a', 0]);
     assert_eq!(answer(usual, "a&a", 4, 2), (0, 0, 4, 1));
     // spare words make no record, and are cleared
-    let one_and_spare = 2 * WIDTH - 1;
+    let one_and_spare = 2 * RECORD_WORDS - 1;
     let spare = parsed(usual, b"", one_and_spare, 0);
     assert_eq!((spare.number, spare.records), (0, 1));
     let mut root = vec![0; one_and_spare];
@@ -198,17 +199,17 @@ fn named_cases() {
     let spare = parsed(usual, b"a", one_and_spare, 1);
     assert_eq!((spare.number, spare.place), (14, 2));
     assert_eq!((spare.records, spare.bytes), (0, 0));
-    let few = parsed(usual, b"a", WIDTH - 1, 1);
+    let few = parsed(usual, b"a", RECORD_WORDS - 1, 1);
     assert_eq!((few.number, few.place), (3, 0));
-    assert_eq!((few.words, few.text), lent(WIDTH - 1, 1));
-    let longest = "&".repeat(Config::MAX_LEN);
+    assert_eq!((few.words, few.text), lent(RECORD_WORDS - 1, 1));
+    let longest = "&".repeat(qs::MAX_LEN);
     assert_eq!(answer(usual, &longest, 1, 0), (0, 0, 1, 0));
     assert_eq!(answer(usual, &(longest + "&"), 1, 0), (2, 0, 0, 0));
     let depth = |depth| crate_config(depth, false);
-    let deepest = Config::MAX_DEPTH;
+    let deepest = qs::MAX_DEPTH;
     assert_eq!(answer(depth(deepest), "a", 2, 1), (0, 0, 2, 1));
     assert_eq!(answer(depth(deepest + 1), "a", 2, 1), (1, 0, 0, 0));
-    // slips that the starred list alone doesn't catch
+    // slips that the proved examples alone don't catch
     assert_eq!(answer(usual, "a[b&c=d]=1", 6, 12), (0, 0, 3, 7));
     assert_eq!(answer(usual, "a=&a=1", 6, 12), (0, 0, 4, 2));
 }

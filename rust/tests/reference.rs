@@ -1,6 +1,6 @@
-//! Document 01's own inputs ("Tickets to try"), as the crate itself reads them: the reference that
-//! the other comparisons rest on gives the trees, numbers and places that the document states.
-//! Refusals 1 to 3, 14 and 15 are additions of the document, and the crate has none of them.
+//! The tickets of READING, 'Examples', as the crate itself reads them: the reference that the other
+//! comparisons rest on gives the trees, numbers and places that are stated there. Refusals 1 to 3,
+//! 14 and 15 are our own, and the crate has none of them.
 
 mod common;
 

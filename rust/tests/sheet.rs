@@ -1,6 +1,7 @@
-//! `qs_sheet`, held against the model: the answer, every word of the records, every byte of the text and every byte of the page, on
-//! pages of every size. What it answers and leaves besides the page is held against `qs_parse` too, and the lines against their shape
-//! alone. `COMPARE=whole` in the environment makes the random part twenty times as large.
+//! `qs_sheet`, held against the model: the answer, every word of the records, every byte of the
+//! text and every byte of the page, on pages of every size. What it answers and leaves besides the
+//! page is held against `qs_parse` too, and the lines against their shape alone. `COMPARE=whole` in
+//! the environment makes the random part twenty times as large.
 
 mod common;
 
@@ -8,14 +9,14 @@ use common::inputs::{fields_query, long_query, query, BYTES};
 use common::kinds::{Kind, HARD, USUAL};
 use common::mixtures::mixture;
 use common::{
-    both_zeros, crate_config, every_string, lent, outcome, parsed, random_config, settings, times,
-    Numbers, Random,
+    both_zeros, crate_config, every_string, lent, outcome, parsed, random_config, settings, ticket,
+    times, Numbers, Random, SMALL_WORDS,
 };
 use model::SheetOutcome;
-use qs::row::{self, WIDTH};
-use qs::{refusal, Config, SHEET_LINE};
+use qs::{raw, refusal, row, Config, Lent, RECORD_WORDS, SHEET_LINE};
 
-/// What a page holds before: bytes that no sheet has, and not the same at the start of any two lines that are near each other.
+/// What a page holds before: bytes that no sheet has, and not the same at the start of any two
+/// lines that are near each other.
 fn page_before(length: usize) -> Vec<u8> {
     (0..length).map(|place| 128 + (place % 127) as u8).collect()
 }
@@ -45,7 +46,11 @@ impl Sizes {
 /// What the library answers and leaves.
 fn sheet(config: Config, input: &[u8], sizes: Sizes) -> SheetOutcome {
     let (mut words, mut text, mut page) = sizes.buffers();
-    let reading = qs::sheet(config, input, &mut words, &mut text, &mut page);
+    let lent = Lent {
+        records: &mut words,
+        text: &mut text,
+    };
+    let reading = raw::sheet(ticket(config, input), lent, &mut page);
     SheetOutcome {
         reading: outcome(reading, words, text),
         page,
@@ -93,8 +98,9 @@ impl Counts {
         got
     }
 
-    /// With records and text that suffice, and pages around as many lines as there are records: none at all, a byte short, just as
-    /// long, and longer by a byte and by a line. A refused reading has no lines.
+    /// With records and text that suffice, and pages around as many lines as there are records:
+    /// none at all, a byte short, just as long, and longer by a byte and by a line. A refused
+    /// reading has no lines.
     fn around(&mut self, config: Config, input: &[u8]) -> SheetOutcome {
         let ample = Sizes::ample(input.len());
         let got = self.compare(config, input, ample);
@@ -140,8 +146,9 @@ fn same_page(got: &[u8], expected: &[u8], described: impl Fn() -> String) {
     }
 }
 
-/// What each sheet has, whatever it is of: lines of 72 characters and a newline, spaces between the columns, a length for a String
-/// alone, and levels that a tree can have in its order. It says what is wrong.
+/// What each sheet has, whatever it is of: lines of 72 characters and a newline, spaces between the
+/// columns, a length for a String alone, and levels that a tree can have in its order. It says what
+/// is wrong.
 fn shape(sheet: &[u8]) -> Result<(), String> {
     let mut above: Option<(usize, &[u8])> = None;
     for line in sheet.chunks(73) {
@@ -204,7 +211,7 @@ fn printed(config: Config, input: &[u8]) -> String {
 }
 
 fn configs() -> impl Iterator<Item = Config> {
-    [0, 1, 2, 5, Config::MAX_DEPTH]
+    [0, 1, 2, 5, qs::MAX_DEPTH]
         .into_iter()
         .flat_map(|depth| [false, true].map(|form| crate_config(depth, form)))
         .flat_map(both_zeros)
@@ -261,7 +268,7 @@ fn random_and_damaged_inputs() {
     }
     for _ in 0..times(20) {
         let config = random_config(&mut random);
-        let length = random.below(Config::MAX_LEN + 1);
+        let length = random.below(qs::MAX_LEN + 1);
         let input = long_query(&mut random, length);
         counts.compare(config, &input, Sizes::ample(length));
     }
@@ -277,7 +284,7 @@ fn kinds() {
     let mut counts = Counts::default();
     for Kind { depth, make, .. } in USUAL.iter().chain(&HARD) {
         for config in both_zeros(crate_config(*depth, false)) {
-            for length in [700, times(6_000).min(Config::MAX_LEN)] {
+            for length in [700, times(6_000).min(qs::MAX_LEN)] {
                 counts.around(config, &make(length));
             }
         }
@@ -285,16 +292,16 @@ fn kinds() {
     counts.report("every kind of long input", &[0, 23]);
 }
 
-/// Records and text that may not suffice, so that a reading is refused before the page is looked at.
+/// Records and text that may not suffice, so that a reading is refused before the page is looked
+/// at.
 #[test]
 fn every_small_buffer() {
     let mut counts = Counts::default();
-    let words = [0, WIDTH - 1, WIDTH, 2 * WIDTH - 1, 2 * WIDTH, 4 * WIDTH];
     let pages = [0, 72, 73, 145, 146, 220, 292];
     for depth in [0, 5] {
         let config = crate_config(depth, true);
         every_string(b"a0[]&=%", 3, |input| {
-            for words in words {
+            for words in SMALL_WORDS {
                 for bytes in 0..4 {
                     for page in pages {
                         counts.compare(config, input, Sizes { words, bytes, page });
@@ -321,7 +328,7 @@ fn random_buffers() {
             _ => wide_query(&mut random, pairs),
         };
         let sizes = Sizes {
-            words: random.below(18 * WIDTH),
+            words: random.below(18 * RECORD_WORDS),
             bytes: random.below(input.len() + 1),
             page: random.below(18 * SHEET_LINE),
         };
@@ -331,7 +338,8 @@ fn random_buffers() {
     counts.report("random inputs in random buffers", &all);
 }
 
-/// Every page from none to one longer than it need be: it is refused below the last line's last byte, and nowhere else.
+/// Every page from none to one longer than it need be: it is refused below the last line's last
+/// byte, and nowhere else.
 #[test]
 fn every_page() {
     let mut counts = Counts::default();
@@ -354,12 +362,13 @@ fn every_page() {
     counts.report("every page for 5 inputs", &[0, 23]);
 }
 
-/// 23, by hand: counts, records and text are those of the reading, and the page is as it was. A refused reading comes before it.
+/// 23, by hand: counts, records and text are those of the reading, and the page is as it was. A
+/// refused reading comes before it.
 #[test]
 fn a_short_page() {
     let config = Config::default();
     let sizes = |page| Sizes {
-        words: 3 * WIDTH,
+        words: 3 * RECORD_WORDS,
         bytes: 4,
         page,
     };
@@ -368,9 +377,15 @@ fn a_short_page() {
         let reading = got.reading;
         assert_eq!((reading.number, reading.place), (refusal::SHORT_PAGE, 0));
         assert_eq!((reading.records, reading.bytes), (2, 2));
-        assert_eq!(row::record(&reading.words, 0), [1, 0, 0, 0, 0, 0, 1, 0]);
-        assert_eq!(row::record(&reading.words, 1), [3, 2, 0, 1, 1, 1, 0, 0]);
-        assert_eq!(row::record(&reading.words, 2), [0; WIDTH]);
+        assert_eq!(
+            row::record(&reading.words, 0),
+            Some(&[1, 0, 0, 0, 0, 0, 1, 0])
+        );
+        assert_eq!(
+            row::record(&reading.words, 1),
+            Some(&[3, 2, 0, 1, 1, 1, 0, 0])
+        );
+        assert_eq!(row::record(&reading.words, 2), Some(&[0; RECORD_WORDS]));
         assert_eq!(reading.text, *b"a1\0\0");
         assert_eq!(got.page, page_before(page));
     }
@@ -389,14 +404,14 @@ fn a_short_page() {
 #[test]
 fn untouched_buffers() {
     let mut counts = Counts::default();
-    let long = [b'&'; Config::MAX_LEN + 1];
+    let long = [b'&'; qs::MAX_LEN + 1];
     let deep = |depth| crate_config(depth, false);
-    let (usual, above) = (Config::default(), Config::MAX_DEPTH + 1);
+    let (usual, above) = (Config::default(), qs::MAX_DEPTH + 1);
     let cases: [(Config, &[u8], usize, u32); 4] = [
-        (deep(above), b"a=1", 8 * WIDTH, refusal::TOO_DEEP),
-        (deep(u32::MAX), b"a=1", 8 * WIDTH, refusal::TOO_DEEP),
-        (usual, &long, 8 * WIDTH, refusal::TOO_LONG),
-        (usual, b"a=1", WIDTH - 1, refusal::NO_RECORD),
+        (deep(above), b"a=1", 8 * RECORD_WORDS, refusal::TOO_DEEP),
+        (deep(u32::MAX), b"a=1", 8 * RECORD_WORDS, refusal::TOO_DEEP),
+        (usual, &long, 8 * RECORD_WORDS, refusal::TOO_LONG),
+        (usual, b"a=1", RECORD_WORDS - 1, refusal::NO_RECORD),
     ];
     for (config, input, words, number) in cases {
         for page in [0, 1, 2 * SHEET_LINE, 1_000] {
@@ -490,7 +505,8 @@ fn what_just_fits() {
     }
 }
 
-/// Digits are an Int up to the greatest, however many zeros lead, and else a String as it is written.
+/// Digits are an Int up to the greatest, however many zeros lead, and else a String as it is
+/// written.
 #[test]
 fn keys_of_digits() {
     let (zeros, ones) = ("0".repeat(30), "1".repeat(26));
@@ -508,7 +524,8 @@ fn keys_of_digits() {
     }
 }
 
-/// Every byte in a key and in a text: between others, as the last that fits, and as the last before `>`.
+/// Every byte in a key and in a text: between others, as the last that fits, and as the last before
+/// `>`.
 #[test]
 fn every_byte() {
     for byte in 0..=255 {
@@ -545,7 +562,8 @@ fn every_byte() {
     }
 }
 
-/// The deepest level at a depth: below the brackets that nest is the key that has the last ones, given twice.
+/// The deepest level at a depth: below the brackets that nest is the key that has the last ones,
+/// given twice.
 #[test]
 fn the_deepest_level() {
     for (depth, deepest) in [(0, 2), (1, 4), (2, 5), (63, 66), (64, 67)] {
@@ -558,10 +576,11 @@ fn the_deepest_level() {
     }
 }
 
-/// A length that fills its columns, though the text is cut; and the longest text and key that an input can have.
+/// A length that fills its columns, though the text is cut; and the longest text and key that an
+/// input can have.
 #[test]
 fn the_longest() {
-    let long = |before: &str| format!("{before}{}", "x".repeat(Config::MAX_LEN - before.len()));
+    let long = |before: &str| format!("{before}{}", "x".repeat(qs::MAX_LEN - before.len()));
     let (key, text) = ("x".repeat(24), "x".repeat(30));
     let cases = [
         (
@@ -578,7 +597,7 @@ fn the_longest() {
         ),
     ];
     for (input, expected) in cases {
-        assert_eq!(input.len(), Config::MAX_LEN);
+        assert_eq!(input.len(), qs::MAX_LEN);
         assert_eq!(
             printed(Config::default(), input.as_bytes()),
             lines(&expected)
@@ -591,7 +610,7 @@ fn the_longest() {
 fn the_most_lines() {
     let mut counts = Counts::default();
     for (piece, records) in [("a&", 32_770), ("=&", 32_769), ("[]&", 21_846), ("&", 1)] {
-        let bytes = piece.bytes().cycle().take(Config::MAX_LEN);
+        let bytes = piece.bytes().cycle().take(qs::MAX_LEN);
         let input: Vec<u8> = bytes.collect();
         let got = counts.around(Config::default(), &input);
         assert_eq!(got.reading.records, records, "{piece}");

@@ -1,5 +1,6 @@
-//! The program `show`, run as it was built and proved: the default settings that it prints, held against those of Rust, and the text that it
-//! shows of raw segments, held against the crate's own `decode`.
+//! The program `show`, run as it was built and proved: the default settings that it prints, held
+//! against those of Rust, and the text that it shows of raw segments, held against the crate's own
+//! `decode`.
 
 mod common;
 
@@ -67,7 +68,8 @@ impl<'a> Comparison<'a> {
         self.segments.push(segment.to_vec());
     }
 
-    /// The decoding of a segment where that fits; else the segment itself, if it holds no mark; else nothing.
+    /// The decoding of a segment where that fits; else the segment itself, if it holds no mark;
+    /// else nothing.
     fn expected(&mut self, segment: &[u8]) -> Vec<u8> {
         let decoded = serde_qs_reference::decode(segment);
         if decoded.len() <= ROOM {

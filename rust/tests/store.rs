@@ -1,13 +1,13 @@
-//! The stored answers that the program `replay` reads are those that `examples/store.rs` writes, and the proved reader gives them.
+//! The stored answers that the program `replay` reads are those that `examples/store.rs` writes,
+//! and the proved reader gives them.
 
 #[allow(dead_code)]
 #[path = "../examples/store.rs"]
 mod store;
 
-use qs::refusal;
-use qs::row::WIDTH;
+use qs::{raw, refusal, Lent, RECORD_WORDS};
 use std::path::Path;
-use store::common::{crate_config, reference_is_there};
+use store::common::{crate_config, reference_is_there, ticket};
 
 /// The file as it is stored.
 fn stored() -> Vec<u8> {
@@ -71,15 +71,19 @@ fn replay(front: &mut Front, case: u32) -> usize {
     let before = if untouched { store::BEFORE } else { 0 };
     let mut expected_words = vec![u32::from(before); words];
     let mut expected_text = vec![before; bytes];
-    for word in &mut expected_words[..records as usize * WIDTH] {
+    for word in &mut expected_words[..records as usize * RECORD_WORDS] {
         *word = front.number();
     }
     expected_text[..used as usize].copy_from_slice(front.bytes(used as usize));
     let mut words_left = vec![store::BEFORE.into(); words];
     let mut text_left = vec![store::BEFORE; bytes];
     let config = crate_config(depth, form == 1);
-    let reading = qs::parse(config, input, &mut words_left, &mut text_left);
-    let expected = qs::Reading {
+    let lent = Lent {
+        records: &mut words_left,
+        text: &mut text_left,
+    };
+    let reading = raw::parse(ticket(config, input), lent);
+    let expected = raw::Reading {
         number,
         place,
         records,

@@ -1,5 +1,5 @@
 //! Decoding beside the URL Standard's (url.spec.whatwg.org): its worked examples, the inputs on
-//! which both agree, and those on which document 01 departs from it.
+//! which both agree, and those on which ours departs from it (READING, 'Decoding').
 
 mod common;
 
@@ -13,7 +13,8 @@ fn decoded(raw: &[u8]) -> Vec<u8> {
     out
 }
 
-/// A raw name is the bytes meant by the standard, and its whole parser gives them once what isn't UTF-8 is replaced.
+/// A raw name is the bytes meant by the standard, and its whole parser gives them once what isn't
+/// UTF-8 is replaced.
 fn means_by_the_standard(raw: &str, meant: &[u8]) {
     let shown = String::from_utf8_lossy(meant).into_owned();
     assert_eq!(whatwg(raw.as_bytes()), meant, "{raw}, by the standard");
@@ -48,8 +49,8 @@ fn examples_on_which_both_agree() {
 }
 
 #[test]
-fn examples_on_which_document_01_departs() {
-    // Raw, as the standard has it, as document 01 has it.
+fn examples_on_which_ours_departs() {
+    // Raw, as the standard has it, as we have it.
     let examples = [
         ("%%41", "%A", "%%41"),
         ("%+", "% ", "%+"),
@@ -59,15 +60,15 @@ fn examples_on_which_document_01_departs() {
         ("%%2a", "%*", "%%2a"),
         ("%2%2af%2a", "%2*f*", "%2%2af*"),
     ];
-    for (raw, standard, document) in examples {
+    for (raw, standard, ours) in examples {
         means_by_the_standard(raw, standard.as_bytes());
         assert_eq!(
             decoded(raw.as_bytes()),
-            document.as_bytes(),
+            ours.as_bytes(),
             "{raw}, by the library"
         );
     }
-    println!("{} examples on which document 01 departs", examples.len());
+    println!("{} examples on which ours departs", examples.len());
 }
 
 /// Where no failed escape swallows a `+` or a `%`, both decode alike; elsewhere they may differ.

@@ -1,8 +1,9 @@
-//! `qs_write`, held against the model: the answer, every word of the records, every byte of the text and every byte of the output,
-//! in outputs of every size. What it answers and leaves besides the output is held against `qs_parse` too, and what it writes is
-//! read back, by itself and, where it has the settings, by the crate: with just the records and the text that were used it gives
-//! the tree again, and the same bytes. `COMPARE=whole` in the environment makes the random part twenty times as large, and has one
-//! piece or pair more in the inputs that are made of these.
+//! `qs_write`, held against the model: the answer, every word of the records, every byte of the
+//! text and every byte of the output, in outputs of every size. What it answers and leaves besides
+//! the output is held against `qs_parse` too, and what it writes is read back, by itself and, where
+//! it has the settings, by the crate: with just the records and the text that were used it gives
+//! the tree again, and the same bytes. `COMPARE=whole` in the environment makes the random part
+//! twenty times as large, and has one piece or pair more in the inputs that are made of these.
 
 mod common;
 
@@ -12,13 +13,13 @@ use common::mixtures::mixture;
 use common::writes::{back, out_before, start, write, written, Counts, Sizes};
 use common::{
     any_config, both_zeros, crate_config, every_list, every_string, random_config,
-    reference_is_there, settings, times, whole, Random,
+    reference_is_there, settings, times, whole, Random, SMALL_WORDS,
 };
-use qs::row::{self, WIDTH};
-use qs::{refusal, Config};
+use qs::{refusal, row, Config, RECORD_WORDS};
 use std::collections::BTreeSet;
 
-/// Depths 0 to 3, with the form flag off and on, and zeros in front of a number not counting and counting.
+/// Depths 0 to 3, with the form flag off and on, and zeros in front of a number not counting and
+/// counting.
 fn configs() -> impl Iterator<Item = Config> {
     let forms = |depth| [false, true].map(|form| crate_config(depth, form));
     (0..4).flat_map(forms).flat_map(both_zeros)
@@ -186,7 +187,7 @@ fn random_and_damaged_inputs() {
     }
     for _ in 0..times(10) {
         let config = random_config(&mut random);
-        let length = random.below(Config::MAX_LEN + 1);
+        let length = random.below(qs::MAX_LEN + 1);
         let input = long_query(&mut random, length);
         counts.just(config, &input);
     }
@@ -204,7 +205,7 @@ fn every_depth() {
     }
     let mut random = Random::new(62);
     let mut counts = Counts::default();
-    for depth in 0..=Config::MAX_DEPTH {
+    for depth in 0..=qs::MAX_DEPTH {
         for form in [false, true] {
             for turn in 0..times(100) {
                 let input = deep_query(&mut random, depth, 1 + turn % 8);
@@ -225,7 +226,7 @@ fn kinds() {
     let mut counts = Counts::default();
     for Kind { depth, make, .. } in USUAL.iter().chain(&HARD) {
         for config in both_zeros(crate_config(*depth, false)) {
-            for length in [700, times(6_000).min(Config::MAX_LEN)] {
+            for length in [700, times(6_000).min(qs::MAX_LEN)] {
                 counts.just(config, &make(length));
             }
         }
@@ -233,16 +234,16 @@ fn kinds() {
     counts.report("every kind of long input", &[0, 26]);
 }
 
-/// Records and text that may not suffice, so that a reading is refused before the output is looked at.
+/// Records and text that may not suffice, so that a reading is refused before the output is looked
+/// at.
 #[test]
 fn every_small_buffer() {
     let mut counts = Counts::default();
-    let words = [0, WIDTH - 1, WIDTH, 2 * WIDTH - 1, 2 * WIDTH, 4 * WIDTH];
     let outs = [0, 1, 2, 3, 4, 5, 9];
     for depth in [0, 5] {
         let config = crate_config(depth, true);
         every_string(b"a0[]&=%", 3, |input| {
-            for words in words {
+            for words in SMALL_WORDS {
                 for bytes in 0..4 {
                     for out in outs {
                         counts.compare(config, input, Sizes { words, bytes, out });
@@ -269,7 +270,7 @@ fn random_buffers() {
             _ => bytes_query(&mut random, pairs),
         };
         let sizes = Sizes {
-            words: random.below(18 * WIDTH),
+            words: random.below(18 * RECORD_WORDS),
             bytes: random.below(input.len() + 1),
             out: random.below(2 * input.len() + 2),
         };
@@ -281,8 +282,8 @@ fn random_buffers() {
 
 // Refusals by hand.
 
-/// Every output from none to longer than it need be: it is refused below the last byte, and nowhere else. That of the empty ticket
-/// needs no byte.
+/// Every output from none to longer than it need be: it is refused below the last byte, and nowhere
+/// else. That of the empty ticket needs no byte.
 #[test]
 fn every_output() {
     let mut counts = Counts::default();
@@ -305,12 +306,13 @@ fn every_output() {
     counts.report("every output for 6 inputs", &[0, 26]);
 }
 
-/// 26, by hand: counts, records and text are those of the reading, and the output is as it was. A refused reading comes before it.
+/// 26, by hand: counts, records and text are those of the reading, and the output is as it was. A
+/// refused reading comes before it.
 #[test]
 fn a_short_output() {
     let config = Config::default();
     let sizes = |out| Sizes {
-        words: 3 * WIDTH,
+        words: 3 * RECORD_WORDS,
         bytes: 4,
         out,
     };
@@ -319,9 +321,15 @@ fn a_short_output() {
         let reading = got.reading;
         assert_eq!((reading.number, reading.place), (refusal::SHORT_OUTPUT, 0));
         assert_eq!((reading.records, reading.bytes, got.length), (2, 2, 0));
-        assert_eq!(row::record(&reading.words, 0), [1, 0, 0, 0, 0, 0, 1, 0]);
-        assert_eq!(row::record(&reading.words, 1), [3, 2, 0, 1, 1, 1, 0, 0]);
-        assert_eq!(row::record(&reading.words, 2), [0; WIDTH]);
+        assert_eq!(
+            row::record(&reading.words, 0),
+            Some(&[1, 0, 0, 0, 0, 0, 1, 0])
+        );
+        assert_eq!(
+            row::record(&reading.words, 1),
+            Some(&[3, 2, 0, 1, 1, 1, 0, 0])
+        );
+        assert_eq!(row::record(&reading.words, 2), Some(&[0; RECORD_WORDS]));
         assert_eq!(reading.text, *b"a1\0\0");
         assert_eq!(got.out, out_before(out));
     }
@@ -340,14 +348,14 @@ fn a_short_output() {
 #[test]
 fn untouched_buffers() {
     let mut counts = Counts::default();
-    let long = [b'&'; Config::MAX_LEN + 1];
+    let long = [b'&'; qs::MAX_LEN + 1];
     let deep = |depth| crate_config(depth, false);
-    let (usual, above) = (Config::default(), Config::MAX_DEPTH + 1);
+    let (usual, above) = (Config::default(), qs::MAX_DEPTH + 1);
     let cases: [(Config, &[u8], usize, u32); 4] = [
-        (deep(above), b"a=1", 8 * WIDTH, refusal::TOO_DEEP),
-        (deep(u32::MAX), b"a=1", 8 * WIDTH, refusal::TOO_DEEP),
-        (usual, &long, 8 * WIDTH, refusal::TOO_LONG),
-        (usual, b"a=1", WIDTH - 1, refusal::NO_RECORD),
+        (deep(above), b"a=1", 8 * RECORD_WORDS, refusal::TOO_DEEP),
+        (deep(u32::MAX), b"a=1", 8 * RECORD_WORDS, refusal::TOO_DEEP),
+        (usual, &long, 8 * RECORD_WORDS, refusal::TOO_LONG),
+        (usual, b"a=1", RECORD_WORDS - 1, refusal::NO_RECORD),
     ];
     for (config, input, words, number) in cases {
         for out in [0, 1, 3, 1_000] {
@@ -392,15 +400,9 @@ fn the_length_limit() {
         let whole = model::written(settings(Config::default()), &input);
         assert_eq!(whole.map(|ticket| ticket.len()), Some(length));
         let (words, bytes) = qs::room(input.len());
-        for out in [
-            0,
-            Config::MAX_LEN - 1,
-            Config::MAX_LEN,
-            Config::MAX_LEN + 1,
-            200_000,
-        ] {
+        for out in [0, qs::MAX_LEN - 1, qs::MAX_LEN, qs::MAX_LEN + 1, 200_000] {
             let got = counts.compare(Config::default(), &input, Sizes { words, bytes, out });
-            let fits = length <= out.min(Config::MAX_LEN);
+            let fits = length <= out.min(qs::MAX_LEN);
             let expected = if fits { (0, length) } else { (26, 0) };
             assert_eq!((got.reading.number, got.length as usize), expected);
             back(Config::default(), &input, &got);
@@ -467,8 +469,9 @@ fn examples() {
     }
 }
 
-/// Every byte, as it comes and as an escape, alone and between others, in a root key, a bracket, a key at the depth and a value. Those
-/// with a meaning are escaped, the space is a `+`, and the others stand as they are; a digit that is a whole key is escaped.
+/// Every byte, as it comes and as an escape, alone and between others, in a root key, a bracket, a
+/// key at the depth and a value. Those with a meaning are escaped, the space is a `+`, and the
+/// others stand as they are; a digit that is a whole key is escaped.
 #[test]
 fn every_byte() {
     if !reference_is_there() {
@@ -521,7 +524,8 @@ fn every_byte() {
     }
 }
 
-/// A String key that would be read as an Int has its first digit escaped, up to the greatest Int and with any zeros before it.
+/// A String key that would be read as an Int has its first digit escaped, up to the greatest Int
+/// and with any zeros before it.
 #[test]
 fn keys_of_digits() {
     if !reference_is_there() {
@@ -573,13 +577,14 @@ fn keys_of_digits() {
     }
 }
 
-/// The last brackets that nest, and those past them, at every depth: a key there keeps its first `[`, and is given twice without `[]`.
+/// The last brackets that nest, and those past them, at every depth: a key there keeps its first
+/// `[`, and is given twice without `[]`.
 #[test]
 fn keys_at_the_depth() {
     if !reference_is_there() {
         return;
     }
-    for depth in 1..=Config::MAX_DEPTH {
+    for depth in 1..=qs::MAX_DEPTH {
         let config = crate_config(depth, false);
         let path = format!("a{}", "[b]".repeat(depth as usize));
         for (behind, ticket) in [
@@ -618,8 +623,9 @@ fn below_the_longest(config: Config, input: &[u8]) -> Option<usize> {
     below
 }
 
-/// A written ticket never has more than three bytes for each of its input's, and two more. Those short inputs reach it that give every
-/// key at least twice and without a value, in bytes that are written in three each.
+/// A written ticket never has more than three bytes for each of its input's, and two more. Those
+/// short inputs reach it that give every key at least twice and without a value, in bytes that are
+/// written in three each.
 #[test]
 fn the_longest_of_short_inputs() {
     let mut reached = BTreeSet::new();

@@ -1,18 +1,20 @@
-//! Zeros in front of a number where they count: `7`, `07` and `007` are three keys then, a number and two strings. Every call is
-//! held against the model; readings and writings also against the crate, which hasn't the setting: with the first `0` of each such key
-//! written as an escape it reads what we read. `COMPARE=whole` in the environment makes the random part twenty times as large.
+//! Zeros in front of a number where they count (READING, 'Keys'): `7`, `07` and `007` are three
+//! keys then, a number and two strings. Every call is held against the model; readings and writings
+//! also against the crate, which hasn't the setting: with the first `0` of each such key written as
+//! an escape it reads what we read. `COMPARE=whole` in the environment makes the random part twenty
+//! times as large.
 
 mod common;
 
 use common::writes::{written, Counts as Writings};
 use common::{
-    both_zeros, crate_config, every_list, every_string, lent, outcome, parsed, random_config,
-    random_duplicates, reference_is_there, settings, times, tree, Numbers, Random, BEFORE,
+    both_zeros, crate_config, every_list, every_string, laid_out, lent, outcome, parsed,
+    random_config, random_duplicates, reference_is_there, settings, ticket, times, tree, Numbers,
+    Random, BEFORE,
 };
 use model::{FieldOutcome, FieldsOutcome, Outcome, SheetOutcome};
-use qs::row::{self, WIDTH};
 use qs::DuplicateKeyBehavior::{self, Error, TakeLast};
-use qs::{laid_out, refusal, Config, Names, ANSWER_WORDS};
+use qs::{raw, refusal, row, Buffers, Config, Lent, Names, Ticket, ANSWER_WORDS, RECORD_WORDS};
 use serde_qs_reference::{Key, Tree};
 use std::ops::Range;
 
@@ -49,7 +51,7 @@ fn shown(config: Config, input: &[u8]) -> String {
 // Tickets by hand, with all that is answered and left.
 
 /// An accepted reading in so many words and bytes, by its records and its text.
-fn accepted(records: &[[u32; WIDTH]], text: &[u8], words: usize, bytes: usize) -> Outcome {
+fn accepted(records: &[[u32; RECORD_WORDS]], text: &[u8], words: usize, bytes: usize) -> Outcome {
     let mut outcome = Outcome {
         number: refusal::ACCEPTED,
         place: 0,
@@ -72,7 +74,8 @@ fn refused(number: u32, place: u32, words: usize, bytes: usize) -> Outcome {
     }
 }
 
-/// A lone key, with zeros not counting and counting: its kind, its value or offset, its length, and the text.
+/// A lone key, with zeros not counting and counting: its kind, its value or offset, its length, and
+/// the text.
 #[test]
 fn lone_keys() {
     let int = |value| ([row::INT_KEY, value, 0], "");
@@ -98,8 +101,8 @@ fn lone_keys() {
             let root = [row::MAP, 0, 0, 0, 0, 0, 1, 0];
             let [kind, value, length] = key;
             let child = [row::NO_VALUE, kind, value, length, 0, 0, 0, 0];
-            let got = parsed(config, input.as_bytes(), 3 * WIDTH, 12);
-            let expected = accepted(&[root, child], text.as_bytes(), 3 * WIDTH, 12);
+            let got = parsed(config, input.as_bytes(), 3 * RECORD_WORDS, 12);
+            let expected = accepted(&[root, child], text.as_bytes(), 3 * RECORD_WORDS, 12);
             assert_eq!(got, expected, "{}", shown(config, input.as_bytes()));
         }
     }
@@ -108,7 +111,7 @@ fn lone_keys() {
 /// A number needs no text, and a string does.
 #[test]
 fn no_text_for_a_key() {
-    let two = 2 * WIDTH;
+    let two = 2 * RECORD_WORDS;
     let root = [row::MAP, 0, 0, 0, 0, 0, 1, 0];
     let number = |value| [row::NO_VALUE, row::INT_KEY, value, 0, 0, 0, 0, 0];
     for (input, value) in [("07", 7), ("00", 0)] {
@@ -125,7 +128,7 @@ fn no_text_for_a_key() {
         assert_eq!(on, accepted(&[root, number(value)], b"", two, 0));
     }
     // in brackets, behind a name of one byte
-    let three = 3 * WIDTH;
+    let three = 3 * RECORD_WORDS;
     assert_eq!(parsed(off(), b"a[07]", three, 1).number, 0);
     let short = refused(refusal::TOO_LITTLE_TEXT, 6, three, 2);
     assert_eq!(parsed(on(), b"a[07]", three, 2), short);
@@ -135,7 +138,7 @@ fn no_text_for_a_key() {
 /// `007` and `7` are one folder or two.
 #[test]
 fn one_folder_or_two() {
-    let (input, words, bytes) = (b"007=1&7[b]=2", 5 * WIDTH, 8);
+    let (input, words, bytes) = (b"007=1&7[b]=2", 5 * RECORD_WORDS, 8);
     let clash = refused(refusal::MAP_ON_STRING, 9, words, bytes);
     assert_eq!(parsed(off(), input, words, bytes), clash);
     let two = [
@@ -205,7 +208,7 @@ fn every_place_of_a_key() {
 #[test]
 fn a_list_of_two() {
     let input = b"a[0]=x&a[01]=y";
-    let (words, bytes) = (4 * WIDTH, 5);
+    let (words, bytes) = (4 * RECORD_WORDS, 5);
     let first = [row::STRING, row::INT_KEY, 0, 0, 1, 1, 0, 3];
     let heads = [[1, 0, 0, 0, 0, 0, 1, 0], [1, 2, 0, 1, 0, 0, 2, 0]];
     let last = |key: [u32; 3], text| [row::STRING, key[0], key[1], key[2], text, 1, 0, 0];
@@ -236,7 +239,7 @@ fn a_list_of_two() {
 fn a_padded_name() {
     for (name, number) in [("07", 0), ("7", refusal::NO_SUCH_FIELD)] {
         let read = |config| {
-            let sizes = (3 * WIDTH, 6, 0);
+            let sizes = (3 * RECORD_WORDS, 6, 0);
             let read = read_text(config, TakeLast, b"07=x&7=y", name.as_bytes(), sizes);
             (read.reading.number, read.offset, read.length)
         };
@@ -308,7 +311,16 @@ fn read_text(
     let (mut records, mut text) = lent(words, bytes);
     let refuses = duplicates == Error;
     let expected = model::text(settings(config), refuses, input, name, &records, &text);
-    let read = qs::text(config, duplicates, input, name, &mut records, &mut text);
+    let ticket = Ticket {
+        input,
+        config,
+        duplicates,
+    };
+    let lent = Lent {
+        records: &mut records,
+        text: &mut text,
+    };
+    let read = raw::text(ticket, name, lent);
     let got = FieldOutcome {
         reading: outcome(read.reading, records, text),
         offset: read.offset,
@@ -331,8 +343,16 @@ fn read_list(
     let mut list = vec![BEFORE.into(); besides];
     let (to, refuses) = (settings(config), duplicates == Error);
     let expected = model::list(to, refuses, input, name, &records, &text, &list);
-    let lent = (&mut records, &mut text, &mut list);
-    let read = qs::list(config, duplicates, input, name, lent.0, lent.1, lent.2);
+    let ticket = Ticket {
+        input,
+        config,
+        duplicates,
+    };
+    let lent = Lent {
+        records: &mut records,
+        text: &mut text,
+    };
+    let read = raw::list(ticket, name, lent, &mut list);
     let got = FieldOutcome {
         reading: outcome(read.reading, records, text),
         offset: read.offset,
@@ -365,8 +385,16 @@ fn read_fields(
         bytes: bytes_of,
         ends,
     };
-    let lent = (&mut records, &mut text, &mut answers);
-    let reading = qs::fields_into(config, duplicates, input, names, lent.0, lent.1, lent.2);
+    let ticket = Ticket {
+        input,
+        config,
+        duplicates,
+    };
+    let lent = Lent {
+        records: &mut records,
+        text: &mut text,
+    };
+    let reading = raw::fields(ticket, names, lent, &mut answers);
     let reading = outcome(reading, records, text);
     let got = FieldsOutcome { reading, answers };
     assert_eq!(got, expected, "{}", shown(config, input));
@@ -378,7 +406,11 @@ fn print_sheet(config: Config, input: &[u8], (words, bytes, besides): Sizes) -> 
     let (mut records, mut text) = lent(words, bytes);
     let mut page = vec![BEFORE; besides];
     let expected = model::sheet(settings(config), input, &records, &text, &page);
-    let reading = qs::sheet(config, input, &mut records, &mut text, &mut page);
+    let lent = Lent {
+        records: &mut records,
+        text: &mut text,
+    };
+    let reading = raw::sheet(ticket(config, input), lent, &mut page);
     let reading = outcome(reading, records, text);
     let got = SheetOutcome { reading, page };
     assert!(got == expected, "the sheet of {}", shown(config, input));
@@ -388,14 +420,15 @@ fn print_sheet(config: Config, input: &[u8], (words, bytes, besides): Sizes) -> 
 /// Names that inputs of a few digits have, or nearly.
 const NAMES: [&str; 6] = ["07", "7", "00", "0", "a", ""];
 
-/// Compares all reads of fields, the sheet and the writing of an input, which is read back. Gives the numbers that came.
+/// Compares all reads of fields, the sheet and the writing of an input, which is read back. Gives
+/// the numbers that came.
 fn every_call(writings: &mut Writings, config: Config, input: &[u8]) -> Vec<u32> {
     let mut numbers = Vec::new();
     let sizes = |besides| ample(input.len(), besides);
     for duplicates in [TakeLast, Error] {
         for name in NAMES.map(str::as_bytes) {
             let text = read_text(config, duplicates, input, name, sizes(0));
-            let ample = 2 * (input.len() + 1);
+            let ample = qs::list_room(input.len());
             let list = read_list(config, duplicates, input, name, sizes(ample));
             let short = read_list(config, duplicates, input, name, sizes(1));
             numbers.extend([&text, &list, &short].map(|read| read.reading.number));
@@ -433,7 +466,7 @@ fn every_small_buffer() {
     let mut counts = Numbers::default();
     for config in configs() {
         every_string(b"07a[]&=", 4, |input| {
-            for words in [1, 2, 3, 4].map(|records| records * WIDTH) {
+            for words in [1, 2, 3, 4].map(|records| records * RECORD_WORDS) {
                 for bytes in 0..5 {
                     counts.count(read(config, input, words, bytes).number);
                 }
@@ -501,7 +534,8 @@ fn every_call_of_lists_of_pairs() {
     );
 }
 
-/// So many pairs, of keys of digits with zeros in front and without, raw and escaped, and a few others.
+/// So many pairs, of keys of digits with zeros in front and without, raw and escaped, and a few
+/// others.
 fn folders(random: &mut Random, pairs: usize) -> Vec<u8> {
     const KEYS: [&[u8]; 16] = [
         b"7",
@@ -572,7 +606,7 @@ fn every_call_of_random_inputs() {
         for number in every_call(&mut writings, config, &input) {
             counts.count(number);
         }
-        let (words, bytes) = (random.below(12 * WIDTH), random.below(16));
+        let (words, bytes) = (random.below(12 * RECORD_WORDS), random.below(16));
         counts.count(read(config, &input, words, bytes).number);
         let duplicates = random_duplicates(&mut random);
         let name = NAMES[random.below(NAMES.len())].as_bytes();
@@ -605,7 +639,8 @@ enum At {
 }
 use At::{Behind, Inside, Kept, Root, Value};
 
-/// Where an input is after a mark, or nothing where the byte is no mark there. At the end it is as after an `&`.
+/// Where an input is after a mark, or nothing where the byte is no mark there. At the end it is as
+/// after an `&`.
 fn after(at: At, byte: u8, nests: bool) -> Option<At> {
     match (at, byte) {
         (Inside, b']') => Some(Behind),
@@ -634,7 +669,8 @@ fn is_padded(raw: &[u8]) -> bool {
     raw.len() > 1 && raw[0] == b'0' && raw.iter().all(u8::is_ascii_digit)
 }
 
-/// Where the padded keys of an input stand, by its marks alone: no tree is built, and nothing is refused.
+/// Where the padded keys of an input stand, by its marks alone: no tree is built, and nothing is
+/// refused.
 fn padded_keys(config: Config, input: &[u8]) -> Vec<Range<usize>> {
     let mut keys = Vec::new();
     let (mut at, mut level, mut start, mut place) = (Root, 0, 0, 0);
@@ -676,7 +712,8 @@ struct Rewritten {
 }
 
 impl Rewritten {
-    /// What we read is what the crate reads of the input with escapes, at a place that is two further for each of these before it.
+    /// What we read is what the crate reads of the input with escapes, at a place that is two
+    /// further for each of these before it.
     fn with_the_crate(&mut self, config: Config, input: &[u8]) {
         let keys = padded_keys(config, input);
         match keys.is_empty() {
@@ -705,7 +742,8 @@ impl Rewritten {
     }
 }
 
-/// The escapes by hand: keys get them wherever they stand, and values, keys at the depth and whatever else is in brackets don't.
+/// The escapes by hand: keys get them wherever they stand, and values, keys at the depth and
+/// whatever else is in brackets don't.
 #[test]
 fn rewritten_inputs() {
     let (none, one) = (counting(0, false), counting(1, false));
@@ -788,7 +826,7 @@ fn random_inputs_with_the_crate() {
     for pairs in [500, 2_000, 5_000] {
         let mut input = folders(&mut random, pairs);
         input.retain(|byte| !b"[]x".contains(byte));
-        input.truncate(Config::MAX_LEN);
+        input.truncate(qs::MAX_LEN);
         rewritten.with_the_crate(on(), &input);
     }
     rewritten.report("random inputs", &[0, 4, 5, 6, 7, 8, 9, 10, 11, 12, 13]);
@@ -807,15 +845,16 @@ fn has_padded_name(tree: &Tree) -> bool {
 }
 
 /// What is written of an input in an ample output, and its answer.
-fn answer_and_output(config: Config, input: &[u8]) -> (qs::Written, Vec<u8>) {
-    let (mut records, mut text) = qs::buffers(input.len());
+fn answer_and_output(config: Config, input: &[u8]) -> (raw::Written, Vec<u8>) {
+    let mut buffers = Buffers::for_len(input.len());
     let mut out = vec![BEFORE; qs::write_room(input.len())];
-    let written = qs::write(config, input, &mut records, &mut text, &mut out);
+    let written = raw::write(ticket(config, input), buffers.lend(), &mut out);
     (written, out)
 }
 
-/// Without padded keys both settings answer and leave the same, and write the same but for string keys that only the one has to
-/// escape. With a padded key that isn't too large, an accepted input leaves something else. Gives whether there is one.
+/// Without padded keys both settings answer and leave the same, and write the same but for string
+/// keys that only the one has to escape. With a padded key that isn't too large, an accepted input
+/// leaves something else. Gives whether there is one.
 fn beside_each_other(config: Config, input: &[u8]) -> bool {
     let (words, bytes) = qs::room(input.len());
     let [off, on] = both_zeros(config).map(|config| parsed(config, input, words, bytes));
@@ -876,7 +915,7 @@ mod c {
             records_len: usize,
             text: *mut u8,
             text_len: usize,
-        ) -> qs::Reading;
+        ) -> qs::raw::Reading;
     }
 }
 
@@ -926,7 +965,8 @@ fn flags_are_off_or_on() {
 
 // Long keys.
 
-/// A long padded key needs just as many bytes of text as it has, at the root and in brackets; a number needs none.
+/// A long padded key needs just as many bytes of text as it has, at the root and in brackets; a
+/// number needs none.
 #[test]
 fn long_keys() {
     let zeros = |count: usize, end: &str| "0".repeat(count) + end;
@@ -939,16 +979,16 @@ fn long_keys() {
         ("a[", zeros(65_532, ""), "]"),
     ] {
         let input = [before, &key, behind].concat().into_bytes();
-        assert!(input.len() <= Config::MAX_LEN);
+        assert!(input.len() <= qs::MAX_LEN);
         let name = usize::from(!before.is_empty());
         let records = 2 + name;
         let needed = name + key.len();
-        let fits = read(on(), &input, records * WIDTH, needed);
+        let fits = read(on(), &input, records * RECORD_WORDS, needed);
         let counts = (records as u32, needed as u32);
         assert_eq!((fits.number, fits.place), (0, 0));
         assert_eq!((fits.records, fits.bytes), counts);
         assert!(fits.text.ends_with(key.as_bytes()));
-        let short = read(on(), &input, records * WIDTH, needed - 1);
+        let short = read(on(), &input, records * RECORD_WORDS, needed - 1);
         let place = input.len() as u32 + 1;
         assert_eq!(
             (short.number, short.place),
@@ -958,7 +998,7 @@ fn long_keys() {
         let off = read(
             off(),
             &input,
-            records * WIDTH,
+            records * RECORD_WORDS,
             if number { name } else { needed },
         );
         assert_eq!((off.number, off.records), (0, counts.0));
@@ -969,18 +1009,18 @@ fn long_keys() {
 #[test]
 fn long_keys_are_written() {
     let mut writings = Writings::default();
-    for length in [20_001, Config::MAX_LEN] {
+    for length in [20_001, qs::MAX_LEN] {
         let input = [&vec![b'0'; length - 1][..], b"7"].concat();
         let got = writings.around(on(), &input);
         assert_eq!((got.reading.number, got.length as usize), (0, length));
         assert!(got.out.starts_with(&input));
     }
-    let long = vec![b'0'; Config::MAX_LEN + 1];
+    let long = vec![b'0'; qs::MAX_LEN + 1];
     let got = writings.around(on(), &long);
     assert_eq!(got.reading.number, refusal::TOO_LONG);
 }
 
-// Demand 3: a ticket that grows.
+// A ticket that grows (READING, 'Growth').
 
 /// Whether a value, below the root, is kept in another.
 fn keeps(grown: &Tree, before: &Tree) -> bool {
@@ -996,8 +1036,9 @@ fn keeps(grown: &Tree, before: &Tree) -> bool {
     }
 }
 
-/// What a reading of A says of one of A, `&` and B: once both are accepted, the second tree keeps the first; where the second alone is
-/// refused, it is past the `&`; and a refusal that more input can't lift stands.
+/// What a reading of A says of one of A, `&` and B: once both are accepted, the second tree keeps
+/// the first; where the second alone is refused, it is past the `&`; and a refusal that more input
+/// can't lift stands.
 fn grew(length: usize, first: &Outcome, second: &Outcome) -> bool {
     match (first.number, second.number) {
         (0, 0) => {

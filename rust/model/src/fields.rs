@@ -1,8 +1,10 @@
-//! Document 01's field reads, and document 02's of many names, on the model's tree.
+//! Field reads, of one name and of many, on the model's tree (READING, 'Field reads' and 'Many
+//! names').
 
 use crate::{accept, Config, Key, Kind, Outcome, Reader};
 
-/// What a field read answers, and what it leaves: `reading` has its number, and `list` what the slice of a list read holds after it.
+/// What a field read answers, and what it leaves: `reading` has its number, and `list` what the
+/// slice of a list read holds after it.
 #[derive(Clone, Debug, PartialEq, Eq)]
 pub struct FieldOutcome {
     pub reading: Outcome,
@@ -14,7 +16,8 @@ pub struct FieldOutcome {
 /// Where a text stands: offset and length.
 type Part = (u32, u32);
 
-/// Reads `input`, and the text of its field `name`. `duplicates` says that several values are refused.
+/// Reads `input`, and the text of its field `name`. `duplicates` says that several values are
+/// refused.
 pub fn text(
     config: Config,
     duplicates: bool,
@@ -90,15 +93,16 @@ impl<'a> Names<'a> {
     }
 }
 
-/// What a read of many names answers, and what it leaves: `reading` has the call's own number, and `answers` what the answer words
-/// hold after it.
+/// What a read of many names answers, and what it leaves: `reading` has the call's own number, and
+/// `answers` what the answer words hold after it.
 #[derive(Clone, Debug, PartialEq, Eq)]
 pub struct FieldsOutcome {
     pub reading: Outcome,
     pub answers: Vec<u32>,
 }
 
-/// Reads `input`, and the text of the field of each name into `answers`, which holds anything before.
+/// Reads `input`, and the text of the field of each name into `answers`, which holds anything
+/// before.
 pub fn fields(
     config: Config,
     duplicates: bool,

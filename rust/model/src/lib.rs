@@ -1,6 +1,7 @@
-//! A model of document 01's reading, in `fields` of its field reads and of document 02's of many names, in `sheet` of document 02's
-//! proof sheet, and in `ser` of its ticket writer. It is recursive, as the source's parser is, with values in a growing list instead
-//! of lent records. It shares nothing with the proved reader, and gives everything that a call answers and leaves.
+//! A model of the reading that docs/READING.md describes, in `fields` of its field reads, in
+//! `sheet` of its sheet, and in `ser` of its writer. It is recursive, as the source's parser is,
+//! with values in a growing list instead of lent records. It shares nothing with the proved reader,
+//! and gives everything that a call answers and leaves.
 
 mod fields;
 pub mod row;
@@ -11,7 +12,8 @@ use row::WIDTH;
 pub use ser::{write, written, WriteOutcome};
 pub use sheet::{sheet, SheetOutcome, SHEET_LINE};
 
-/// How a reading is set: `depth` is refused above [`MAX_DEPTH`], and `zeros` is document 02's.
+/// How a reading is set (READING, 'Settings'): `depth` is refused above [`MAX_DEPTH`], and under
+/// `zeros` those in front of a number count.
 #[derive(Clone, Copy, Debug, PartialEq, Eq)]
 pub struct Config {
     pub depth: u32,
@@ -44,7 +46,8 @@ impl Outcome {
     }
 }
 
-/// Document 01's limits: how deep brackets may nest, and how many bytes an input may have.
+/// The limits (READING, 'Settings'): how deep brackets may nest, and how many bytes an input may
+/// have.
 pub const MAX_DEPTH: u32 = 64;
 pub const MAX_LEN: usize = 65_535;
 
@@ -492,7 +495,8 @@ impl Leaf {
     }
 }
 
-/// The Int that a raw segment is read as, unless it is a String. With zeros on, a needless zero in front makes it one.
+/// The Int that a raw segment is read as, unless it is a String. With zeros on, a needless zero in
+/// front makes it one.
 fn int(config: Config, raw: &[u8]) -> Option<u32> {
     let needless = matches!(raw, [b'0', _, ..]);
     let digits = raw.iter().all(u8::is_ascii_digit);
@@ -509,7 +513,7 @@ fn value(digits: &[u8]) -> Option<u32> {
     })
 }
 
-/// Document 01's decoding.
+/// A raw segment decoded (READING, 'Decoding').
 fn decode(raw: &[u8]) -> Vec<u8> {
     let hex = |byte: u8| char::from(byte).to_digit(16);
     let mut decoded = Vec::new();

@@ -1,4 +1,5 @@
-//! Document 01's words of a record, for the model alone: the tests hold them against those of the library.
+//! The words of a record (READING, 'Records'), for the model alone: the tests hold them against
+//! those of the library.
 
 /// A record's width in words.
 pub const WIDTH: usize = 8;

@@ -1,10 +1,11 @@
-//! Document 02's ticket writer, on the model's tree. Each single value gets its pair by itself, from the way that leads to it
-//! from the root, and the pairs are sorted afterwards.
+//! The writer, on the model's tree (READING, 'The writer'). Each single value gets its pair by
+//! itself, from the way that leads to it from the root, and the pairs are sorted afterwards.
 
 use crate::row::WIDTH;
 use crate::{accept, int, Config, Key, Kind, Outcome, Reader, MAX_LEN};
 
-/// What a writing answers, and what it leaves: `reading` has its number, and `out` what the output holds after it.
+/// What a writing answers, and what it leaves: `reading` has its number, and `out` what the output
+/// holds after it.
 #[derive(Clone, Debug, PartialEq, Eq)]
 pub struct WriteOutcome {
     pub reading: Outcome,
@@ -45,7 +46,8 @@ pub fn written(config: Config, input: &[u8]) -> Option<Vec<u8>> {
     Some(reader.ticket())
 }
 
-/// Where a value stands among its parent's children, in the order of writing: the empty key comes last.
+/// Where a value stands among its parent's children, in the order of writing: the empty key comes
+/// last.
 type Turn = (bool, usize);
 
 impl Reader<'_> {
@@ -82,7 +84,8 @@ impl Reader<'_> {
         parents
     }
 
-    /// The pair of a single value, where `way` has the values that lead to it, level 1 first and itself last.
+    /// The pair of a single value, where `way` has the values that lead to it, level 1 first and
+    /// itself last.
     fn pair(&self, way: &[usize], number: usize) -> Vec<u8> {
         let mut pair = Vec::new();
         for (above, &step) in way.iter().enumerate() {

@@ -1,11 +1,12 @@
-//! Document 02's proof sheet, on the model's tree.
+//! The proof sheet, on the model's tree (READING, 'The sheet').
 
 use crate::{accept, Config, Key, Kind, Node, Outcome, Reader};
 
 /// The bytes of a line, its newline among them.
 pub const SHEET_LINE: usize = 73;
 
-/// What a sheet answers, and what it leaves: `reading` has its number, and `page` what the page holds after it.
+/// What a sheet answers, and what it leaves: `reading` has its number, and `page` what the page
+/// holds after it.
 #[derive(Clone, Debug, PartialEq, Eq)]
 pub struct SheetOutcome {
     pub reading: Outcome,

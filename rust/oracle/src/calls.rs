@@ -13,7 +13,7 @@ pub fn decode(raw: &[u8]) -> Vec<u8> {
 }
 
 /// The crate's reading of a whole query string: its tree, or the refusal's number, 4 to 13 as in
-/// document 01, and its place.
+/// READING, 'Refusals', and its place.
 pub fn parse(input: &[u8], depth: usize, form: bool) -> Result<Tree, (u32, usize)> {
     let config = Config::new().max_depth(depth).use_form_encoding(form);
     match exposed::parse::parse(input, config) {
@@ -51,7 +51,8 @@ fn key(key: &exposed::parse::Key) -> Key {
     }
 }
 
-/// How the crate words each refusal of document 01, up to where a wording names parts of the input.
+/// How the crate words each refusal that has a number, up to where a wording names parts of the
+/// input.
 const REFUSALS: [(u32, &str); 15] = [
     (4, "query string ended before expected"),
     (5, "unexpected end of input while parsing nested key"),
@@ -85,11 +86,11 @@ const REFUSALS: [(u32, &str); 15] = [
     (21, "incomplete utf-8 byte sequence"),
 ];
 
-/// Document 01's number for a refusal.
+/// The number of a refusal (READING, 'Refusals').
 pub fn number(wording: &str) -> u32 {
     let worded = |(_, start): &&(u32, &str)| wording.starts_with(start);
     match REFUSALS.iter().find(worded) {
         Some((number, _)) => *number,
-        None => unreachable!("document 01 has no number for the refusal '{wording}'"),
+        None => unreachable!("there is no number for the refusal '{wording}'"),
     }
 }

@@ -1,4 +1,5 @@
-//! Field reads through the crate's own deserializer: by document 01's rules, and as a derived struct reads its field.
+//! Field reads through the crate's own deserializer: as READING, 'Field reads', has them, and as a
+//! derived struct reads its field.
 
 use crate::calls::number;
 use crate::exposed::parse::{parse, ParsedValue};
@@ -8,8 +9,8 @@ use std::collections::BTreeMap;
 use std::fmt;
 use std::sync::Mutex;
 
-/// The text of a root field by the crate's `deserialize_str`, or document 01's number for the refusal: 4 to 13, or 16 to 21.
-/// `duplicates` is the crate's `DuplicateKeyBehavior::Error`.
+/// The text of a root field by the crate's `deserialize_str`, or the refusal's number: 4 to 13, or
+/// 16 to 21. `duplicates` is the crate's `DuplicateKeyBehavior::Error`.
 pub fn text(
     input: &[u8],
     depth: usize,
@@ -31,7 +32,8 @@ pub fn list(
     field(input, config(depth, form, duplicates), name, List)
 }
 
-/// What `struct { name: String }` with a derived `Deserialize` gets at the usual settings, or the crate's wording of its refusal.
+/// What `struct { name: String }` with a derived `Deserialize` gets at the usual settings, or the
+/// crate's wording of its refusal.
 pub fn struct_text(input: &[u8], name: &str) -> Result<Vec<u8>, String> {
     in_struct(input, name, Text)
 }
@@ -49,7 +51,8 @@ fn config(depth: usize, form: bool, duplicates: bool) -> Config {
     }
 }
 
-/// Names the field twice: the crate looks for the names in turn, so one is left exactly where the first was found.
+/// Names the field twice: the crate looks for the names in turn, so one is left exactly where the
+/// first was found.
 fn field<'de, S: DeserializeSeed<'de>>(
     input: &'de [u8],
     config: Config,
@@ -79,7 +82,8 @@ fn field<'de, S: DeserializeSeed<'de>>(
     }
 }
 
-/// Reads the map's first value where its key is the field; `named` says so beforehand. It never fails itself.
+/// Reads the map's first value where its key is the field; `named` says so beforehand. It never
+/// fails itself.
 struct Field<S> {
     seed: S,
     named: bool,
@@ -119,7 +123,8 @@ fn in_struct<'de, S: DeserializeSeed<'de> + Copy>(
         .map_err(|error| error.to_string())
 }
 
-/// The visitor that `derive(Deserialize)` writes for a struct of one field; here it is written by hand.
+/// The visitor that `derive(Deserialize)` writes for a struct of one field; here it is written by
+/// hand.
 struct Derived<S> {
     seed: S,
     name: &'static str,

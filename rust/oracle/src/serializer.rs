@@ -1,5 +1,5 @@
-//! config.rs names the crate's serializer, which document 01 leaves out. This one stands in for it
-//! so that config.rs compiles, and refuses everything.
+//! config.rs names the crate's serializer, which nothing here compares with. This one stands in for
+//! it so that config.rs compiles, and refuses everything.
 
 use crate::{Config, Error};
 use serde::ser::{self, Impossible, Serialize};

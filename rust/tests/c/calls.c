@@ -1,6 +1,6 @@
 /*
- * Calls each export through include/qs.h, and checks its answers and what it leaves. The numbers of the Rust side, RUST_..., are
- * defined on the compiler's command line (tests/c.rs).
+ * Calls each export through include/qs.h, and checks its answers and what it leaves. The numbers of
+ * the Rust side, RUST_..., are defined on the compiler's command line (tests/c.rs).
  */
 #include "qs.h"
 
@@ -25,6 +25,11 @@ static void check(int holds, const char *what, int line) {
 
 /* How many elements an array has. */
 #define COUNT(array) (sizeof(array) / sizeof *(array))
+
+/* Whether an answer has these words, all of them; it is nothing but words, as many as RUST_..._SIZE says. */
+#define IS(answer, ...) \
+    (sizeof (const uint32_t[]){__VA_ARGS__} == sizeof(answer) && \
+     memcmp(&(answer), (const uint32_t[]){__VA_ARGS__}, sizeof(answer)) == 0)
 
 /* The buffers, filled with something other than zero before each call. */
 static uint32_t words[8 * QS_RECORD_WORDS];
@@ -71,8 +76,9 @@ static void utf8(void) {
     CHECK(qs_utf8(NULL, 0) == 1);
 }
 
-/* The header's numbers are those of the Rust side. */
+/* The header's numbers are those of the Rust side. Its enumerators are compared in a file that the test makes. */
 static void numbers(void) {
+    CHECK(strcmp(QS_VERSION, RUST_VERSION) == 0);
     CHECK(QS_RECORD_WORDS == RUST_RECORD_WORDS);
     CHECK(QS_MAX_DEPTH == RUST_MAX_DEPTH);
     CHECK(QS_MAX_INPUT == RUST_MAX_INPUT);
@@ -86,41 +92,43 @@ static void numbers(void) {
 }
 
 static void parse(void) {
-    static const uint32_t records[2][QS_RECORD_WORDS] = {{1, 0, 0, 0, 0, 0, 1, 0}, {3, 2, 0, 1, 1, 1, 0, 0}};
+    static const uint32_t records[2][QS_RECORD_WORDS] = {
+        {QS_MAP, QS_NO_KEY, 0, 0, 0, 0, 1, 0},
+        {QS_STRING, QS_STRING_KEY, 0, 1, 1, 1, 0, 0},
+    };
     struct qs_reading reading;
     fill();
     reading = qs_parse(5, 0, 0, SLICE("a=1"), LENT);
-    CHECK(reading.number == 0 && reading.place == 0 && reading.records == 2 && reading.bytes == 2);
+    CHECK(IS(reading, QS_ACCEPTED, 0, 2, 2));
     CHECK(memcmp(words, records, sizeof records) == 0);
     CHECK(all(words + 2 * QS_RECORD_WORDS, sizeof words - sizeof records, 0));
     CHECK(memcmp(text, "a1", 2) == 0 && all(text + 2, sizeof text - 2, 0));
     fill();
     reading = qs_parse(5, 1, 0, SLICE("a%5B"), LENT);
-    CHECK(reading.number == 4 && reading.place == 5 && reading.records == 0 && reading.bytes == 0);
+    CHECK(IS(reading, QS_END_AFTER_OPENING, 5, 0, 0));
     CHECK(all(words, sizeof words, 0) && all(text, sizeof text, 0));
     fill();
     reading = qs_parse(QS_MAX_DEPTH + 1, 0, 0, SLICE("a"), LENT);
-    CHECK(reading.number == 1 && all(words, sizeof words, 7) && all(text, sizeof text, 7));
+    CHECK(IS(reading, QS_TOO_DEEP, 0, 0, 0) && all(words, sizeof words, 7) && all(text, sizeof text, 7));
     reading = qs_parse(5, 0, 0, SLICE("a"), words, QS_RECORD_WORDS - 1, text, sizeof text);
-    CHECK(reading.number == 3 && all(words, sizeof words, 7) && all(text, sizeof text, 7));
+    CHECK(IS(reading, QS_NO_RECORD, 0, 0, 0) && all(words, sizeof words, 7) && all(text, sizeof text, 7));
 }
 
 static void read_text(void) {
     struct qs_field_read read;
     fill();
     read = qs_text(5, 0, 0, 0, SLICE("w=fog&w=dew"), SLICE("w"), LENT);
-    CHECK(read.number == 0 && read.place == 0 && read.records == 4 && read.bytes == 7);
-    CHECK(read.offset == 4 && read.length == 3 && memcmp(text, "wfogdew", 8) == 0);
+    CHECK(IS(read, QS_ACCEPTED, 0, 4, 7, 4, 3) && memcmp(text, "wfogdew", 8) == 0);
     read = qs_text(5, 0, 0, 1, SLICE("w=fog&w=dew"), SLICE("w"), LENT);
-    CHECK(read.number == 19 && read.records == 4 && read.bytes == 7 && read.offset == 0 && read.length == 0);
+    CHECK(IS(read, QS_SEVERAL_VALUES, 0, 4, 7, 0, 0));
     read = qs_text(5, 0, 0, UINT32_MAX, SLICE("w=fog&w=dew"), SLICE("w"), LENT);
-    CHECK(read.number == 19);
+    CHECK(IS(read, QS_SEVERAL_VALUES, 0, 4, 7, 0, 0));
     read = qs_text(5, 0, 0, 0, SLICE("1=x"), SLICE("1"), LENT);
-    CHECK(read.number == 17 && read.place == 0 && read.records == 2 && read.bytes == 1);
+    CHECK(IS(read, QS_NO_SUCH_FIELD, 0, 2, 1, 0, 0));
     read = qs_text(5, 0, 0, 0, SLICE("=x"), NULL, 0, LENT);
-    CHECK(read.number == 0 && read.offset == 0 && read.length == 1);
+    CHECK(IS(read, QS_ACCEPTED, 0, 1, 1, 0, 1));
     read = qs_text(5, 0, 0, 0, SLICE("a["), SLICE("a"), LENT);
-    CHECK(read.number == 4 && read.place == 3 && read.records == 0 && read.bytes == 0);
+    CHECK(IS(read, QS_END_AFTER_OPENING, 3, 0, 0, 0, 0));
 }
 
 static void read_list(void) {
@@ -128,17 +136,17 @@ static void read_list(void) {
     struct qs_field_read read;
     fill();
     read = qs_list(5, 0, 0, 0, SLICE("h[]=10&h[]=9"), SLICE("h"), LENT, list, COUNT(list));
-    CHECK(read.number == 0 && read.records == 4 && read.bytes == 4 && read.offset == 0 && read.length == 2);
+    CHECK(IS(read, QS_ACCEPTED, 0, 4, 4, 0, 2));
     CHECK(memcmp(list, parts, sizeof parts) == 0 && memcmp(text, "h109", 5) == 0);
     fill();
     read = qs_list(5, 0, 0, 0, SLICE("h[]=10&h[]=9"), SLICE("h"), LENT, list, 3);
-    CHECK(read.number == 22 && read.records == 4 && read.bytes == 4 && read.length == 0);
+    CHECK(IS(read, QS_SHORT_SLICE, 0, 4, 4, 0, 0));
     CHECK(all(list, 3 * sizeof *list, 0) && all(list + 3, 3 * sizeof *list, 7));
     fill();
     read = qs_list(QS_MAX_DEPTH + 1, 0, 0, 0, SLICE("h"), SLICE("h"), LENT, list, COUNT(list));
-    CHECK(read.number == 1 && all(list, sizeof list, 7));
+    CHECK(IS(read, QS_TOO_DEEP, 0, 0, 0, 0, 0) && all(list, sizeof list, 7));
     read = qs_list(5, 0, 0, 2, SLICE("h[0]=1&h[0]=2"), SLICE("h"), LENT, list, COUNT(list));
-    CHECK(read.number == 19 && read.length == 0 && all(list, sizeof list, 0));
+    CHECK(IS(read, QS_SEVERAL_VALUES, 0, 5, 3, 0, 0) && all(list, sizeof list, 0));
 }
 
 /* Names: w, absent, and w again. */
@@ -149,40 +157,44 @@ static void read_list(void) {
 
 static void read_fields(void) {
     static const uint32_t ends[3] = {1, 7, 8};
-    static const uint32_t last[3 * QS_ANSWER_WORDS] = {0, 4, 3, 17, 0, 0, 0, 4, 3};
-    static const uint32_t several[3 * QS_ANSWER_WORDS] = {19, 0, 0, 17, 0, 0, 19, 0, 0};
+    static const uint32_t last[3 * QS_ANSWER_WORDS] = {QS_ACCEPTED, 4, 3, QS_NO_SUCH_FIELD, 0, 0, QS_ACCEPTED, 4, 3};
+    static const uint32_t several[3 * QS_ANSWER_WORDS] = {
+        QS_SEVERAL_VALUES, 0, 0, QS_NO_SUCH_FIELD, 0, 0, QS_SEVERAL_VALUES, 0, 0,
+    };
     struct qs_reading reading;
     fill();
     reading = qs_fields(5, 0, 0, 0, SLICE("w=fog&w=dew"), NAMES, ends, COUNT(ends), LENT, ANSWERS(COUNT(answers)));
-    CHECK(reading.number == 0 && reading.place == 0 && reading.records == 4 && reading.bytes == 7);
+    CHECK(IS(reading, QS_ACCEPTED, 0, 4, 7));
     CHECK(memcmp(answers, last, sizeof last) == 0 && all(answers + COUNT(last), sizeof answers - sizeof last, 7));
-    CHECK(words[0] == 1 && memcmp(text, "wfogdew", 7) == 0 && all(text + 7, sizeof text - 7, 0));
-    reading = qs_fields(5, 0, 0, UINT32_MAX, SLICE("w=fog&w=dew"), NAMES, ends, COUNT(ends), LENT, ANSWERS(COUNT(several)));
-    CHECK(reading.number == 0 && reading.records == 4 && memcmp(answers, several, sizeof several) == 0);
+    CHECK(words[QS_KIND] == QS_MAP && memcmp(text, "wfogdew", 7) == 0 && all(text + 7, sizeof text - 7, 0));
+    reading = qs_fields(5, 0, 0, UINT32_MAX, SLICE("w=fog&w=dew"), NAMES, ends, COUNT(ends), LENT,
+                        ANSWERS(COUNT(several)));
+    CHECK(IS(reading, QS_ACCEPTED, 0, 4, 7) && memcmp(answers, several, sizeof several) == 0);
     fill();
     reading = qs_fields(5, 1, 0, 0, SLICE("a%5B"), NAMES, ends, COUNT(ends), LENT, ANSWERS(COUNT(answers)));
-    CHECK(reading.number == 4 && reading.place == 5 && reading.records == 0 && reading.bytes == 0);
+    CHECK(IS(reading, QS_END_AFTER_OPENING, 5, 0, 0));
     CHECK(all(words, sizeof words, 0) && all(text, sizeof text, 0) && all(answers, sizeof answers, 7));
     reading = qs_fields(5, 0, 0, 0, SLICE("w=fog"), NULL, 0, NULL, 0, LENT, NULL, 0);
-    CHECK(reading.number == 0 && reading.place == 0 && reading.records == 2 && reading.bytes == 4);
-    CHECK(words[0] == 1 && memcmp(text, "wfog", 4) == 0);
+    CHECK(IS(reading, QS_ACCEPTED, 0, 2, 4) && words[QS_KIND] == QS_MAP && memcmp(text, "wfog", 4) == 0);
     reading = qs_fields(5, 0, 0, 0, NULL, 0, NULL, 0, NULL, 0, words, COUNT(words), NULL, 0, NULL, 0);
-    CHECK(reading.number == 0 && reading.records == 1 && reading.bytes == 0 && words[0] == 5);
+    CHECK(IS(reading, QS_ACCEPTED, 0, 1, 0) && words[QS_KIND] == QS_NO_VALUE);
 }
 
-/* 24 and 25 come before 1, and leave every slice as it was. */
+/* Wrong ends and short answers come before a depth that is too great, and leave every slice as it was. */
 static void refused_names(void) {
     static const uint32_t ends[3] = {1, 7, 8}, falling[3] = {1, 8, 7}, passing[3] = {1, 7, 9};
+    static const size_t enough = 3 * QS_ANSWER_WORDS;
+    const uint32_t deep = QS_MAX_DEPTH + 1;
     struct qs_reading reading;
     fill();
-    reading = qs_fields(QS_MAX_DEPTH + 1, 0, 0, 0, SLICE("w["), NAMES, falling, COUNT(falling), LENT, ANSWERS(0));
-    CHECK(reading.number == 24 && reading.place == 0 && reading.records == 0 && reading.bytes == 0);
+    reading = qs_fields(deep, 0, 0, 0, SLICE("w["), NAMES, falling, COUNT(falling), LENT, ANSWERS(0));
+    CHECK(IS(reading, QS_WRONG_ENDS, 0, 0, 0));
     reading = qs_fields(5, 0, 0, 0, SLICE("w=fog"), NAMES, passing, COUNT(passing), LENT, ANSWERS(COUNT(answers)));
-    CHECK(reading.number == 24 && reading.place == 0 && reading.records == 0 && reading.bytes == 0);
-    reading = qs_fields(QS_MAX_DEPTH + 1, 0, 0, 0, SLICE("w["), NAMES, ends, COUNT(ends), LENT, ANSWERS(3 * QS_ANSWER_WORDS - 1));
-    CHECK(reading.number == 25 && reading.place == 0 && reading.records == 0 && reading.bytes == 0);
-    reading = qs_fields(QS_MAX_DEPTH + 1, 0, 0, 0, SLICE("w["), NAMES, ends, COUNT(ends), LENT, ANSWERS(3 * QS_ANSWER_WORDS));
-    CHECK(reading.number == 1 && reading.place == 0 && reading.records == 0 && reading.bytes == 0);
+    CHECK(IS(reading, QS_WRONG_ENDS, 0, 0, 0));
+    reading = qs_fields(deep, 0, 0, 0, SLICE("w["), NAMES, ends, COUNT(ends), LENT, ANSWERS(enough - 1));
+    CHECK(IS(reading, QS_SHORT_ANSWERS, 0, 0, 0));
+    reading = qs_fields(deep, 0, 0, 0, SLICE("w["), NAMES, ends, COUNT(ends), LENT, ANSWERS(enough));
+    CHECK(IS(reading, QS_TOO_DEEP, 0, 0, 0));
     CHECK(all(words, sizeof words, 7) && all(text, sizeof text, 7) && all(answers, sizeof answers, 7));
 }
 
@@ -193,23 +205,23 @@ static void sheet(void) {
     snprintf(lines, sizeof lines, "%-72s\n%-72s\n", "  0       map", "  1     1 stri a                         1");
     fill();
     reading = qs_sheet(5, 0, 0, SLICE("a=1"), LENT, page, sizeof page);
-    CHECK(reading.number == 0 && reading.place == 0 && reading.records == 2 && reading.bytes == 2);
+    CHECK(IS(reading, QS_ACCEPTED, 0, 2, 2));
     CHECK(memcmp(page, lines, two_lines) == 0 && all(page + two_lines, sizeof page - two_lines, 7));
     CHECK(memcmp(text, "a1", 2) == 0 && all(text + 2, sizeof text - 2, 0));
     fill();
     reading = qs_sheet(5, 0, 0, SLICE("a=1"), LENT, page, two_lines - 1);
-    CHECK(reading.number == 23 && reading.place == 0 && reading.records == 2 && reading.bytes == 2);
-    CHECK(words[0] == 1 && words[QS_RECORD_WORDS] == 3 && memcmp(text, "a1", 2) == 0 && all(page, sizeof page, 7));
+    CHECK(IS(reading, QS_SHORT_PAGE, 0, 2, 2) && memcmp(text, "a1", 2) == 0 && all(page, sizeof page, 7));
+    CHECK(words[QS_KIND] == QS_MAP && words[QS_RECORD_WORDS + QS_KIND] == QS_STRING);
     reading = qs_sheet(5, 0, 0, NULL, 0, words, COUNT(words), NULL, 0, NULL, 0);
-    CHECK(reading.number == 23 && reading.place == 0 && reading.records == 1 && reading.bytes == 0);
+    CHECK(IS(reading, QS_SHORT_PAGE, 0, 1, 0));
     reading = qs_sheet(5, 0, 0, NULL, 0, words, COUNT(words), NULL, 0, page, QS_SHEET_LINE);
     snprintf(lines, sizeof lines, "%-72s\n", "  0       nova");
-    CHECK(reading.number == 0 && reading.records == 1 && memcmp(page, lines, QS_SHEET_LINE) == 0);
+    CHECK(IS(reading, QS_ACCEPTED, 0, 1, 0) && memcmp(page, lines, QS_SHEET_LINE) == 0);
     fill();
     reading = qs_sheet(5, 1, 0, SLICE("a%5B"), LENT, page, sizeof page);
-    CHECK(reading.number == 4 && reading.place == 5 && reading.records == 0 && all(page, sizeof page, 7));
+    CHECK(IS(reading, QS_END_AFTER_OPENING, 5, 0, 0) && all(page, sizeof page, 7));
     reading = qs_sheet(QS_MAX_DEPTH + 1, 0, 0, SLICE("a"), LENT, NULL, 0);
-    CHECK(reading.number == 1 && reading.place == 0 && reading.records == 0 && reading.bytes == 0);
+    CHECK(IS(reading, QS_TOO_DEEP, 0, 0, 0));
 }
 
 /* Where form isn't 0, whatever it is, `a%5B%5D=` is a sequence of one. */
@@ -217,34 +229,37 @@ static void write_ticket(void) {
     static const uint32_t flags[3] = {1, 256, UINT32_MAX};
     struct qs_written written;
     size_t i;
-    fill();
-    written = qs_write(5, 0, 0, SLICE("b=%2B&a=1&a="), LENT, out, sizeof out);
-    CHECK(written.number == 0 && written.place == 0 && written.records == 5 && written.bytes == 4 && written.length == 16);
-    CHECK(memcmp(out, "a[]=1&a[]=&b=%2b", 16) == 0 && all(out + 16, sizeof out - 16, 7));
-    CHECK(words[0] == 1 && memcmp(text, "b+a1", 4) == 0 && all(text + 4, sizeof text - 4, 0));
-    fill();
-    written = qs_write(5, 0, 0, SLICE("b=%2B&a=1&a="), LENT, out, 15);
-    CHECK(written.number == 26 && written.place == 0 && written.records == 5 && written.bytes == 4 && written.length == 0);
-    CHECK(words[0] == 1 && memcmp(text, "b+a1", 4) == 0 && all(text + 4, sizeof text - 4, 0) && all(out, sizeof out, 7));
     for (i = 0; i < COUNT(flags); i++) {
         fill();
         written = qs_write(5, flags[i], 0, SLICE("a%5B%5D="), LENT, out, sizeof out);
-        CHECK(written.number == 0 && written.records == 3 && written.length == 4 && memcmp(out, "a[]=\x07", 5) == 0);
+        CHECK(IS(written, QS_ACCEPTED, 0, 3, 1, 4) && memcmp(out, "a[]=\x07", 5) == 0);
     }
     written = qs_write(5, 0, 0, SLICE("a%5B%5D="), LENT, out, sizeof out);
-    CHECK(written.number == 0 && written.records == 2 && written.length == 8 && memcmp(out, "a%5b%5d=\x07", 9) == 0);
+    CHECK(IS(written, QS_ACCEPTED, 0, 2, 3, 8) && memcmp(out, "a%5b%5d=\x07", 9) == 0);
+    fill();
+    written = qs_write(5, 0, 0, SLICE("b=%2B&a=1&a="), LENT, out, sizeof out);
+    CHECK(IS(written, QS_ACCEPTED, 0, 5, 4, 16));
+    CHECK(memcmp(out, "a[]=1&a[]=&b=%2b", 16) == 0 && all(out + 16, sizeof out - 16, 7));
+    CHECK(words[QS_KIND] == QS_MAP && memcmp(text, "b+a1", 4) == 0 && all(text + 4, sizeof text - 4, 0));
     written = qs_write(5, 0, 0, NULL, 0, words, COUNT(words), NULL, 0, NULL, 0);
-    CHECK(written.number == 0 && written.place == 0 && written.records == 1 && written.bytes == 0 && written.length == 0);
-    CHECK(words[0] == 5);
+    CHECK(IS(written, QS_ACCEPTED, 0, 1, 0, 0) && words[QS_KIND] == QS_NO_VALUE);
+}
+
+static void refused_writing(void) {
+    struct qs_written written;
+    fill();
+    written = qs_write(5, 0, 0, SLICE("b=%2B&a=1&a="), LENT, out, 15);
+    CHECK(IS(written, QS_SHORT_OUTPUT, 0, 5, 4, 0) && all(out, sizeof out, 7));
+    CHECK(words[QS_KIND] == QS_MAP && memcmp(text, "b+a1", 4) == 0 && all(text + 4, sizeof text - 4, 0));
     written = qs_write(5, 0, 0, SLICE("&"), words, COUNT(words), NULL, 0, NULL, 0);
-    CHECK(written.number == 26 && written.place == 0 && written.records == 1 && written.bytes == 0 && written.length == 0);
+    CHECK(IS(written, QS_SHORT_OUTPUT, 0, 1, 0, 0));
     fill();
     written = qs_write(5, 1, 0, SLICE("a%5B"), LENT, out, sizeof out);
-    CHECK(written.number == 4 && written.place == 5 && written.records == 0 && written.bytes == 0 && written.length == 0);
+    CHECK(IS(written, QS_END_AFTER_OPENING, 5, 0, 0, 0));
     CHECK(all(words, sizeof words, 0) && all(text, sizeof text, 0) && all(out, sizeof out, 7));
     fill();
     written = qs_write(QS_MAX_DEPTH + 1, 0, 0, SLICE("a"), LENT, out, sizeof out);
-    CHECK(written.number == 1 && written.place == 0 && written.records == 0 && written.length == 0);
+    CHECK(IS(written, QS_TOO_DEEP, 0, 0, 0, 0));
     CHECK(all(words, sizeof words, 7) && all(text, sizeof text, 7) && all(out, sizeof out, 7));
 }
 
@@ -253,23 +268,25 @@ static void zeros(void) {
     static const uint32_t flags[4] = {0, 1, 256, UINT32_MAX}, ends[1] = {2};
     size_t i;
     for (i = 0; i < COUNT(flags); i++) {
-        const uint32_t on = flags[i] != 0, bytes = on ? 3 : 1, number = on ? 0 : 17;
+        const uint32_t on = flags[i] != 0, bytes = on ? 3 : 1, number = on ? QS_ACCEPTED : QS_NO_SUCH_FIELD;
+        const uint32_t *const child = words + QS_RECORD_WORDS;
         struct qs_reading reading;
         struct qs_field_read read;
         struct qs_written written;
         reading = qs_parse(5, 0, flags[i], SLICE("07=x"), LENT);
-        CHECK(reading.number == 0 && reading.records == 2 && reading.bytes == bytes);
-        CHECK(words[QS_RECORD_WORDS + 1] == 1 + on && words[QS_RECORD_WORDS + 2] == (on ? 0 : 7));
+        CHECK(IS(reading, QS_ACCEPTED, 0, 2, bytes));
+        CHECK(child[QS_KEY_KIND] == (on ? QS_STRING_KEY : QS_INT_KEY) && child[QS_KEY] == (on ? 0 : 7));
         read = qs_text(5, 0, flags[i], 0, SLICE("07=x"), SLICE("07"), LENT);
-        CHECK(read.number == number && read.bytes == bytes && read.offset == 2 * on && read.length == on);
+        CHECK(IS(read, number, 0, 2, bytes, 2 * on, on));
         read = qs_list(5, 0, flags[i], 0, SLICE("07=x"), SLICE("07"), LENT, list, COUNT(list));
-        CHECK(read.number == number && read.bytes == bytes && list[0] == 2 * on && read.length == on);
+        CHECK(IS(read, number, 0, 2, bytes, 0, on) && list[0] == 2 * on);
         reading = qs_fields(5, 0, flags[i], 0, SLICE("07=x"), SLICE("07"), ends, COUNT(ends), LENT, ANSWERS(3));
-        CHECK(reading.number == 0 && reading.bytes == bytes && answers[0] == number && answers[2] == on);
+        CHECK(IS(reading, QS_ACCEPTED, 0, 2, bytes) && answers[0] == number && answers[2] == on);
         reading = qs_sheet(5, 0, flags[i], SLICE("07=x"), LENT, page, sizeof page);
-        CHECK(reading.number == 0 && memcmp(page + QS_SHEET_LINE + 15, on ? "07 " : "7  ", 3) == 0);
+        CHECK(IS(reading, QS_ACCEPTED, 0, 2, bytes));
+        CHECK(memcmp(page + QS_SHEET_LINE + 15, on ? "07 " : "7  ", 3) == 0);
         written = qs_write(5, 0, flags[i], SLICE("07=x"), LENT, out, sizeof out);
-        CHECK(written.number == 0 && written.length == 3 + on && memcmp(out, on ? "07=x" : "7=x", 3 + on) == 0);
+        CHECK(IS(written, QS_ACCEPTED, 0, 2, bytes, 3 + on) && memcmp(out, on ? "07=x" : "7=x", 3 + on) == 0);
     }
 }
 
@@ -284,6 +301,7 @@ int main(void) {
     refused_names();
     sheet();
     write_ticket();
+    refused_writing();
     zeros();
     printf("%d checks, %d failed\n", checks, failures);
     return failures > 0;

@@ -84,10 +84,12 @@ pub fn query(random: &mut Random, pairs: usize) -> Vec<u8> {
     input
 }
 
-/// Names of fields, most of which [`fields_query`] often has; `1` and `4294967295` name Int keys too.
+/// Names of fields, most of which [`fields_query`] often has; `1` and `4294967295` name Int keys
+/// too.
 pub const NAMES: [&str; 8] = ["a", "b", "1", "", "c", "4294967295", "\u{e9}", "a[b]"];
 
-/// So many pairs of few names, with texts and lists of every kind, well-formed or not, in one case out of eight damaged.
+/// So many pairs of few names, with texts and lists of every kind, well-formed or not, in one case
+/// out of eight damaged.
 pub fn fields_query(random: &mut Random, pairs: usize) -> Vec<u8> {
     const NAMED: [&[u8]; 12] = [
         b"a",
@@ -132,7 +134,8 @@ pub fn fields_query(random: &mut Random, pairs: usize) -> Vec<u8> {
     input
 }
 
-/// So many pairs whose brackets end about where those of a depth do. Most lead the same way until then, and some are given twice.
+/// So many pairs whose brackets end about where those of a depth do. Most lead the same way until
+/// then, and some are given twice.
 pub fn deep_query(random: &mut Random, depth: u32, pairs: usize) -> Vec<u8> {
     const ENDS: [&[u8]; 16] = [
         b"", b"", b"", b"[]", b"[]", b"[1]", b"[%31]", b"[+]", b"[%5B]", b"[b", b"[b]c", b"[=",

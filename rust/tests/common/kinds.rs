@@ -1,10 +1,11 @@
-//! Kinds of long input, each made to a length: tickets as they come, and what is hard for a reader that looks for the
-//! place of every key among many.
+//! Kinds of long input, each made to a length: tickets as they come, and what is hard for a reader
+//! that looks for the place of every key among many.
 
 use super::orders::{self, Order};
 use super::Random;
 
-/// A kind of input: its name, the depth that it is read at, and an input of at most so many bytes, which is accepted.
+/// A kind of input: its name, the depth that it is read at, and an input of at most so many bytes,
+/// which is accepted.
 pub struct Kind {
     pub name: &'static str,
     pub depth: u32,
@@ -179,8 +180,8 @@ fn maps(length: usize, maps: usize) -> Vec<u8> {
     })
 }
 
-/// Two pairs, each of which makes a record with one child, so many records from each other; and then the rest. What is
-/// too short for that has the first pair alone.
+/// Two pairs, each of which makes a record with one child, so many records from each other; and
+/// then the rest. What is too short for that has the first pair alone.
 pub fn apart<P: AsRef<[u8]>>(
     length: usize,
     distance: usize,
@@ -201,7 +202,8 @@ pub fn apart<P: AsRef<[u8]>>(
     input
 }
 
-/// A map of Int keys, and then values for the map itself, which go under its empty key behind all others.
+/// A map of Int keys, and then values for the map itself, which go under its empty key behind all
+/// others.
 fn empty_key_behind_ints(length: usize) -> Vec<u8> {
     let mut input = pairs(length / 2, |i| format!("a[{i}]=1"));
     while input.len() + 4 <= length {
@@ -210,7 +212,8 @@ fn empty_key_behind_ints(length: usize) -> Vec<u8> {
     input
 }
 
-/// A key of two bytes. Below 50,176 each number has its own, and they stand in the order of their numbers.
+/// A key of two bytes. Below 50,176 each number has its own, and they stand in the order of their
+/// numbers.
 pub fn two_bytes(i: usize) -> Vec<u8> {
     const OTHERS: &[u8] = b"&=[]%+0123456789";
     let bytes: Vec<u8> = (16..=255).filter(|byte| !OTHERS.contains(byte)).collect();

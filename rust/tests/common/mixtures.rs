@@ -1,5 +1,5 @@
-//! Many keys of one shape, and pairs that put them somewhere: what a reader that remembers where it was has to tell
-//! apart.
+//! Many keys of one shape, and pairs that put them somewhere: what a reader that remembers where it
+//! was has to tell apart.
 
 use super::kinds::two_bytes;
 use super::orders::{Order, ORDERS};
@@ -46,7 +46,8 @@ fn alike(bytes: usize, i: usize) -> Vec<u8> {
     format!("{}{i}", "p".repeat(bytes)).into_bytes()
 }
 
-/// Keys that differ in their eighth byte, half of them by its lowest bit alone; some end there, others go on.
+/// Keys that differ in their eighth byte, half of them by its lowest bit alone; some end there,
+/// others go on.
 fn eighth_byte(i: usize) -> Vec<u8> {
     let mut key = b"pppppppA".to_vec();
     key[7] += (i % 16) as u8;
@@ -152,8 +153,8 @@ impl Nesting {
 /// A pair for each of the maps that get values themselves, so that they are maps before.
 const MAPS: &[u8] = b"m[k]&m1[k]&m3[k]&d[e][f0][g][k]&n[k][0]";
 
-/// Keys of a few shapes, orders and nestings, laid between each other with values for maps, which are maps before in
-/// three cases out of four; in one case out of eight damaged.
+/// Keys of a few shapes, orders and nestings, laid between each other with values for maps, which
+/// are maps before in three cases out of four; in one case out of eight damaged.
 pub fn mixture(random: &mut Random, most: usize) -> Vec<u8> {
     let mut rows: Vec<Vec<Vec<u8>>> = (0..1 + random.below(3))
         .map(|_| {

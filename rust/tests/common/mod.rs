@@ -10,7 +10,7 @@ pub mod rows;
 pub mod whatwg;
 pub mod writes;
 
-use qs::{refusal, row};
+use qs::{raw, row, Lent, Names, NamesBuf, Refusal, Ticket, RECORD_WORDS};
 use std::io::Write;
 
 /// A byte of each kind that decoding tells apart: both marks, a digit, a hex letter of either case,
@@ -88,7 +88,8 @@ pub fn every_string(alphabet: &[u8], longest: usize, mut check: impl FnMut(&[u8]
     }
 }
 
-/// Calls `check` on the concatenation of every list of at most `longest` pieces, with `between` between each two.
+/// Calls `check` on the concatenation of every list of at most `longest` pieces, with `between`
+/// between each two.
 pub fn every_list(pieces: &[&[u8]], longest: usize, between: &[u8], mut check: impl FnMut(&[u8])) {
     let numbers: Vec<u8> = (0..pieces.len() as u8).collect();
     every_string(&numbers, longest, |list| {
@@ -113,7 +114,8 @@ pub fn times(few: usize) -> usize {
     }
 }
 
-/// Says that the calling test is left out, and why; in continuous integration (CI is set) it fails instead.
+/// Says that the calling test is left out, and why; in continuous integration (CI is set) it fails
+/// instead.
 pub fn leave_out(why: &str) {
     let ci = std::env::var("CI").is_ok_and(|set| !set.is_empty() && set != "false");
     assert!(!ci, "{why}");
@@ -121,7 +123,8 @@ pub fn leave_out(why: &str) {
     let _ = writeln!(std::io::stderr(), "LEFT OUT: {why}");
 }
 
-/// Whether the crate itself was built, to compare with. Where it was not, the calling comparison is left out.
+/// Whether the crate itself was built, to compare with. Where it was not, the calling comparison is
+/// left out.
 pub fn reference_is_there() -> bool {
     let Some(why) = serde_qs_reference::MISSING else {
         return true;
@@ -130,49 +133,52 @@ pub fn reference_is_there() -> bool {
     false
 }
 
-/// The tree that records and text hold, by document 01's words of a record.
+/// The tree that records and text hold, with values of its own.
 pub fn tree(words: &[u32], text: &[u8]) -> serde_qs_reference::Tree {
-    tree_at(words, text, 0)
+    owned(qs::Tree::of(words, text).expect("there is a root"))
 }
 
-fn tree_at(words: &[u32], text: &[u8], number: u32) -> serde_qs_reference::Tree {
+/// A tree with values of its own.
+pub fn owned(tree: qs::Tree) -> serde_qs_reference::Tree {
+    use qs::Kind;
     use serde_qs_reference::Tree;
-    let record = row::record(words, number);
-    let below = |child| tree_at(words, text, child);
-    match record[row::KIND] {
-        row::UNINITIALIZED => Tree::Uninitialized,
-        row::MAP => Tree::Map(
-            children(words, record)
-                .map(|child| (key_at(words, text, child), below(child)))
-                .collect(),
-        ),
-        row::SEQUENCE => Tree::Sequence(children(words, record).map(below).collect()),
-        row::STRING => {
-            Tree::String(row::part(text, record[row::TEXT], record[row::TEXT_LEN]).to_vec())
-        }
-        row::NULL => Tree::Null,
-        row::NO_VALUE => Tree::NoValue,
-        kind => panic!("record {number} has kind {kind}"),
+    let entry = |(key, value)| (owned_key(key), owned(value));
+    match tree.kind() {
+        Kind::Uninitialized => Tree::Uninitialized,
+        Kind::Map => Tree::Map(tree.entries().map(entry).collect()),
+        Kind::Sequence => Tree::Sequence(tree.elements().map(owned).collect()),
+        Kind::String => Tree::String(tree.text().expect("its bytes are there").to_vec()),
+        Kind::Null => Tree::Null,
+        Kind::NoValue => Tree::NoValue,
     }
 }
 
-/// The numbers of a record's children, in their order.
-fn children<'a>(words: &'a [u32], record: &[u32]) -> impl Iterator<Item = u32> + 'a {
-    let some = |number: u32| (number != 0).then_some(number);
-    std::iter::successors(some(record[row::CHILD]), move |&child| {
-        some(row::record(words, child)[row::NEXT])
-    })
-}
-
-fn key_at(words: &[u32], text: &[u8], number: u32) -> serde_qs_reference::Key {
+fn owned_key(key: qs::Key) -> serde_qs_reference::Key {
     use serde_qs_reference::Key;
-    let record = row::record(words, number);
-    let (key, length) = (record[row::KEY], record[row::KEY_LEN]);
-    match record[row::KEY_KIND] {
-        row::INT_KEY if length == 0 => Key::Int(key),
-        row::STRING_KEY => Key::String(row::part(text, key, length).to_vec()),
-        _ => panic!("record {number} has no key"),
+    match key {
+        qs::Key::Int(number) => Key::Int(number),
+        qs::Key::String(bytes) => Key::String(bytes.to_vec()),
     }
+}
+
+/// A ticket at some settings, of several values the last.
+pub fn ticket(config: qs::Config, input: &[u8]) -> Ticket<'_> {
+    Ticket {
+        config,
+        ..Ticket::new(input)
+    }
+}
+
+/// Bytes of a text that an answer says are there.
+pub fn part(text: &[u8], offset: u32, length: u32) -> &[u8] {
+    row::part(text, offset, length).expect("an answer lies in the text")
+}
+
+/// Names laid end to end, and the end of each.
+pub fn laid_out<N: AsRef<[u8]>>(names: &[N]) -> (Vec<u8>, Vec<u32>) {
+    let laid = NamesBuf::of(names);
+    let Names { bytes, ends } = laid.lend();
+    (bytes.to_vec(), ends.to_vec())
 }
 
 /// Settings that the crate has too: zeros in front of a number don't count.
@@ -189,7 +195,7 @@ pub fn both_zeros(config: qs::Config) -> [qs::Config; 2] {
 /// Any of some settings, shallow ones and the deepest.
 pub fn random_config(random: &mut Random) -> qs::Config {
     qs::Config {
-        depth: [0, 1, 2, 3, 5, qs::Config::MAX_DEPTH][random.below(6)],
+        depth: [0, 1, 2, 3, 5, qs::MAX_DEPTH][random.below(6)],
         form: random.below(2) == 1,
         zeros: random.below(2) == 1,
     }
@@ -206,7 +212,7 @@ pub fn random_crate_config(random: &mut Random) -> qs::Config {
 
 /// Settings of any depth, a shallow one more often than a deep one.
 pub fn any_config(random: &mut Random) -> qs::Config {
-    let deepest = qs::Config::MAX_DEPTH >> random.below(7);
+    let deepest = qs::MAX_DEPTH >> random.below(7);
     qs::Config {
         depth: random.below(deepest as usize + 1) as u32,
         form: random.below(2) == 1,
@@ -227,8 +233,8 @@ pub fn settings(config: qs::Config) -> model::Config {
 }
 
 /// What a reading of the library answered and left, as the model has it.
-pub fn outcome(reading: qs::Reading, words: Vec<u32>, text: Vec<u8>) -> model::Outcome {
-    let qs::Reading {
+pub fn outcome(reading: raw::Reading, words: Vec<u32>, text: Vec<u8>) -> model::Outcome {
+    let raw::Reading {
         number,
         place,
         records,
@@ -247,6 +253,17 @@ pub fn outcome(reading: qs::Reading, words: Vec<u32>, text: Vec<u8>) -> model::O
 /// What buffers hold before a call.
 pub const BEFORE: u8 = 7;
 
+/// Numbers of words for no record, one and two, with the most that is less than the next has, and
+/// for four.
+pub const SMALL_WORDS: [usize; 6] = [
+    0,
+    RECORD_WORDS - 1,
+    RECORD_WORDS,
+    2 * RECORD_WORDS - 1,
+    2 * RECORD_WORDS,
+    4 * RECORD_WORDS,
+];
+
 /// Records and text of so many words and bytes, as they are before a call.
 pub fn lent(words: usize, bytes: usize) -> (Vec<u32>, Vec<u8>) {
     (vec![BEFORE.into(); words], vec![BEFORE; bytes])
@@ -255,13 +272,20 @@ pub fn lent(words: usize, bytes: usize) -> (Vec<u32>, Vec<u8>) {
 /// What `qs_parse` answers and leaves where so many words and bytes are lent.
 pub fn parsed(config: qs::Config, input: &[u8], words: usize, bytes: usize) -> model::Outcome {
     let (mut words, mut text) = lent(words, bytes);
-    let reading = qs::parse(config, input, &mut words, &mut text);
+    let lent = Lent {
+        records: &mut words,
+        text: &mut text,
+    };
+    let reading = raw::parse(ticket(config, input), lent);
     outcome(reading, words, text)
 }
 
+/// The numbers that a call answers: 0, and every refusal's.
+pub const NUMBERS: usize = 1 + Refusal::ALL.len();
+
 /// How often each number was answered.
 #[derive(Default)]
-pub struct Numbers([usize; refusal::ALL.len()]);
+pub struct Numbers([usize; NUMBERS]);
 
 impl Numbers {
     pub fn count(&mut self, number: u32) {

@@ -1,4 +1,5 @@
-//! Orders that many keys may come in: each gives numbers below a count, all of them where nothing else is said.
+//! Orders that many keys may come in: each gives numbers below a count, all of them where nothing
+//! else is said.
 
 use super::Random;
 
@@ -52,7 +53,8 @@ pub fn inside_out(count: usize) -> Vec<usize> {
     zigzag(count).into_iter().rev().collect()
 }
 
-/// Runs of rising numbers laid between each other, so that every run goes past the numbers of those before it.
+/// Runs of rising numbers laid between each other, so that every run goes past the numbers of those
+/// before it.
 pub fn comb(count: usize) -> Vec<usize> {
     runs(count).flatten().collect()
 }
@@ -67,8 +69,8 @@ fn runs(count: usize) -> impl Iterator<Item = std::iter::StepBy<std::ops::Range<
     (0..TEETH).map(move |run| (run * 37 % TEETH..count).step_by(TEETH))
 }
 
-/// The lower and the upper half in turns, both rising (of an odd count all but the last): no two that follow each other
-/// are neighbours, and what is behind is never come to again.
+/// The lower and the upper half in turns, both rising (of an odd count all but the last): no two
+/// that follow each other are neighbours, and what is behind is never come to again.
 pub fn two_runs(count: usize) -> Vec<usize> {
     let half = count / 2;
     (0..half).flat_map(|i| [i, half + i]).collect()
@@ -79,7 +81,8 @@ pub fn two_falling_runs(count: usize) -> Vec<usize> {
     two_runs(count).into_iter().rev().collect()
 }
 
-/// Both ends shuffled, and then the middle third falling, twice: many numbers between two that were neighbours.
+/// Both ends shuffled, and then the middle third falling, twice: many numbers between two that were
+/// neighbours.
 pub fn dense_gap(count: usize) -> Vec<usize> {
     let middle = count / 3..count - count / 3;
     let mut ends = rising(count);

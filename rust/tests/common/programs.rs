@@ -7,9 +7,10 @@ use std::process::{Command, Stdio};
 
 /// What the listing program lends: records, and bytes of text.
 pub const LIST_RECORDS: usize = 2_000;
-pub const LIST_BYTES: usize = qs::Config::MAX_LEN;
+pub const LIST_BYTES: usize = qs::MAX_LEN;
 
-/// A program by its name, which `rt ci` and `rt check NAME` build. Where it is missing, the calling test is left out.
+/// A program by its name, which `rt ci` and `rt check NAME` build. Where it is missing, the calling
+/// test is left out.
 pub fn built(name: &str) -> Option<PathBuf> {
     let path = Path::new(env!("CARGO_MANIFEST_DIR")).join(format!("../target/bin/{name}"));
     if path.is_file() {

@@ -1,5 +1,6 @@
-//! The rows of docs/DIFFERENCES.md's first table, each a function: what they make of the URL Standard's stretches. No tree is built
-//! here; a reading is a list of leaves, each a path of keys with the value that stands there, and what clashes shows in the paths.
+//! The rows of docs/DIFFERENCES.md's first table, each a function: what they make of the URL
+//! Standard's stretches. No tree is built here; a reading is a list of leaves, each a path of keys
+//! with the value that stands there, and what clashes shows in the paths.
 
 use super::whatwg::{decoded, failed_escapes, split, stretches};
 use qs::{refusal, Config};
@@ -39,14 +40,16 @@ impl Row {
 /// A path of keys from the root, and what stands there: a sequence or a single value, but no map.
 pub type Leaf = (Vec<Key>, Tree);
 
-/// What the rows make of an input: its leaves in order, or the refusal's number; and which rows were at work in it.
+/// What the rows make of an input: its leaves in order, or the refusal's number; and which rows
+/// were at work in it.
 pub struct Expected {
     pub leaves: Result<Vec<Leaf>, u32>,
     rows: u32,
 }
 
 impl Expected {
-    /// The places of those rows in the table. Without any the names and values are the standard's as they stand.
+    /// The places of those rows in the table. Without any the names and values are the standard's
+    /// as they stand.
     pub fn rows(&self) -> impl Iterator<Item = usize> {
         let rows = self.rows;
         (0..Row::COUNT).filter(move |place| rows >> place & 1 == 1)
@@ -71,7 +74,8 @@ pub fn expected(config: Config, input: &[u8]) -> Expected {
     }
 }
 
-/// Brackets that aren't closed are refused, so is another byte after them, and so is a value that can't be both.
+/// Brackets that aren't closed are refused, so is another byte after them, and so is a value that
+/// can't be both.
 fn row_of(number: u32) -> Row {
     match number {
         refusal::END_AFTER_OPENING..=refusal::END_BEFORE_CLOSING => Row::NotClosed,
@@ -81,7 +85,8 @@ fn row_of(number: u32) -> Row {
     }
 }
 
-/// A pair: each key of its path wants a map above it; then what its end wants there, and the value, or why it has none.
+/// A pair: each key of its path wants a map above it; then what its end wants there, and the value,
+/// or why it has none.
 struct Pair {
     path: Vec<Key>,
     wants: Wants,
@@ -117,7 +122,8 @@ impl Reading {
         Ok(())
     }
 
-    /// An `&` inside a bracket's key is part of it: a stretch that ends inside of a bracket goes on in the next one.
+    /// An `&` inside a bracket's key is part of it: a stretch that ends inside of a bracket goes on
+    /// in the next one.
     fn whole_pair<'a>(&mut self, first: &[u8], rest: &mut impl Iterator<Item = &'a [u8]>) -> Pair {
         let mut text = first.to_vec();
         let mut pair = self.pair(&text);
@@ -145,8 +151,8 @@ impl Reading {
         }
     }
 
-    /// Brackets nest: each key in them goes one further down. Brackets that aren't closed are refused: 4 where the end comes straight
-    /// after, else 5, once there is a map for the key.
+    /// Brackets nest: each key in them goes one further down. Brackets that aren't closed are
+    /// refused: 4 where the end comes straight after, else 5, once there is a map for the key.
     fn nested(&mut self, mut path: Vec<Key>, text: &[u8], level: u32) -> Pair {
         let opening = self.starts(text, b'[').expect("a bracket opens here");
         let inside = &text[opening..];
@@ -179,7 +185,8 @@ impl Reading {
         }
     }
 
-    /// Empty brackets make a sequence, at the depth too. Another byte after them is refused: 12 if it is a bracket, else 13.
+    /// Empty brackets make a sequence, at the depth too. Another byte after them is refused: 12 if
+    /// it is a bracket, else 13.
     fn element(&mut self, path: Vec<Key>, after: &[u8]) -> Pair {
         self.work(Row::EmptyBrackets);
         let value = match self.starts(after, b'[') {
@@ -193,7 +200,8 @@ impl Reading {
         }
     }
 
-    /// From the depth on, brackets belong to the key; so does an `&` or `=` straight after the first of them.
+    /// From the depth on, brackets belong to the key; so does an `&` or `=` straight after the
+    /// first of them.
     fn at_depth(&mut self, mut path: Vec<Key>, text: &[u8], opening: usize) -> Pair {
         let (first, others) = text.split_at(opening + 1);
         let (more, value) = split(others);
@@ -208,7 +216,8 @@ impl Reading {
         }
     }
 
-    /// With the form flag on, `%5B` and `%5D` are brackets. Gives how long the bracket at the text's start is.
+    /// With the form flag on, `%5B` and `%5D` are brackets. Gives how long the bracket at the
+    /// text's start is.
     fn starts(&mut self, text: &[u8], bracket: u8) -> Option<usize> {
         let escape = if bracket == b'[' { b"%5B" } else { b"%5D" };
         if text.first() == Some(&bracket) {
@@ -229,7 +238,8 @@ impl Reading {
         })
     }
 
-    /// After a name's last bracket comes its `=` or nothing; another byte is refused by the number given.
+    /// After a name's last bracket comes its `=` or nothing; another byte is refused by the number
+    /// given.
     fn end(&mut self, after: &[u8], another: u32) -> Result<Tree, u32> {
         match split(after) {
             ([], value) => Ok(self.value(value)),
@@ -283,8 +293,8 @@ impl Reading {
         }
     }
 
-    /// A failed escape swallows the next byte or two, and a `+` among them stays; the rest is decoded as the standard has it. Bytes
-    /// are not replaced where they aren't UTF-8.
+    /// A failed escape swallows the next byte or two, and a `+` among them stays; the rest is
+    /// decoded as the standard has it. Bytes are not replaced where they aren't UTF-8.
     fn text(&mut self, raw: &[u8]) -> Vec<u8> {
         let mut text = Vec::new();
         let mut from = 0;
@@ -297,7 +307,8 @@ impl Reading {
             text.extend_from_slice(&raw[escape]);
         }
         text.extend(decoded(&raw[from..]));
-        // What is decoded is shorter than its escape: so is the standard's text, where one was swallowed.
+        // What is decoded is shorter than its escape: so is the standard's text, where one was
+        // swallowed.
         if from > 0 && decoded(raw).len() < text.len() {
             self.work(Row::SwallowedEscape);
         }
@@ -353,8 +364,9 @@ impl Reading {
         self.leaves.iter().any(below)
     }
 
-    /// A map below the root takes a later single value under its empty key. A pair without a name goes to the root itself, unless that
-    /// is a map by then: then it has the empty key, as in the standard.
+    /// A map below the root takes a later single value under its empty key. A pair without a name
+    /// goes to the root itself, unless that is a map by then: then it has the empty key, as in the
+    /// standard.
     fn add_single(&mut self, mut path: Vec<Key>, value: Tree) {
         match (self.is_map(&path), path.is_empty()) {
             (true, false) => self.work(Row::EmptyKey),
@@ -412,7 +424,8 @@ fn refused(path: Vec<Key>, wants: Wants, number: u32) -> Pair {
     }
 }
 
-/// Numbers by value, then the others by their bytes; of two paths the first keys that differ decide.
+/// Numbers by value, then the others by their bytes; of two paths the first keys that differ
+/// decide.
 fn compare(one: &[Key], other: &[Key]) -> Ordering {
     fn rank(key: &Key) -> (bool, u32, &[u8]) {
         match key {
@@ -423,7 +436,8 @@ fn compare(one: &[Key], other: &[Key]) -> Ordering {
     one.iter().map(rank).cmp(other.iter().map(rank))
 }
 
-/// The leaves of a tree, in its own order. An empty map, which no reading leaves, would show as a leaf.
+/// The leaves of a tree, in its own order. An empty map, which no reading leaves, would show as a
+/// leaf.
 pub fn leaves(tree: &Tree) -> Vec<Leaf> {
     fn walk(tree: &Tree, path: &mut Vec<Key>, leaves: &mut Vec<Leaf>) {
         match tree {

@@ -1,5 +1,5 @@
-//! The URL Standard's application/x-www-form-urlencoded parser (url.spec.whatwg.org), which is that of the crates `form_urlencoded`
-//! and `percent_encoding`; and where document 01's decoding leaves it.
+//! The URL Standard's application/x-www-form-urlencoded parser (url.spec.whatwg.org), which is that
+//! of the crates `form_urlencoded` and `percent_encoding`; and where our decoding leaves it.
 
 use percent_encoding::percent_decode;
 use std::ops::Range;
@@ -9,7 +9,8 @@ pub fn pairs(input: &[u8]) -> Vec<(String, String)> {
     form_urlencoded::parse(input).into_owned().collect()
 }
 
-/// A raw name or value before that last step: each `+` becomes a space, then percent-decode, as in `form_urlencoded`.
+/// A raw name or value before that last step: each `+` becomes a space, then percent-decode, as in
+/// `form_urlencoded`.
 pub fn decoded(raw: &[u8]) -> Vec<u8> {
     let spaced: Vec<u8> = raw
         .iter()
@@ -20,8 +21,8 @@ pub fn decoded(raw: &[u8]) -> Vec<u8> {
 
 /// The standard's raw stretches between two `&`. Those that are empty make no pair.
 ///
-/// The crates give names and values decoded alone, and none told from an empty one; that this and [`split`] are their splitting
-/// is checked by [`splits_as_the_standard`].
+/// The crates give names and values decoded alone, and none told from an empty one; that this and
+/// [`split`] are their splitting is checked by [`splits_as_the_standard`].
 pub fn stretches(input: &[u8]) -> impl Iterator<Item = &[u8]> {
     input.split(|&byte| byte == b'&')
 }
@@ -34,7 +35,8 @@ pub fn split(stretch: &[u8]) -> (&[u8], Option<&[u8]>) {
     }
 }
 
-/// Whether the stretches, split and decoded, are the crate's names and values, once what isn't UTF-8 is replaced as it does.
+/// Whether the stretches, split and decoded, are the crate's names and values, once what isn't
+/// UTF-8 is replaced as it does.
 pub fn splits_as_the_standard(input: &[u8]) -> bool {
     let shown = |raw: &[u8]| String::from_utf8_lossy(&decoded(raw)).into_owned();
     stretches(input)
@@ -44,7 +46,8 @@ pub fn splits_as_the_standard(input: &[u8]) -> bool {
         .eq(form_urlencoded::parse(input).into_owned())
 }
 
-/// The failed escapes under document 01's rule: each `%` that has no two hex digits after it, with the bytes that it swallows.
+/// The failed escapes (READING, 'Decoding'): each `%` that has no two hex digits after it, with the
+/// bytes that it swallows.
 pub fn failed_escapes(raw: &[u8]) -> Vec<Range<usize>> {
     let hex = |place: usize| raw.get(place).is_some_and(u8::is_ascii_hexdigit);
     let mut failed = Vec::new();

@@ -1,11 +1,12 @@
 //! Writings by the library, held against the model and read back.
 
-use super::{lent, outcome, parsed, settings, tree, Numbers};
-use model::WriteOutcome;
-use qs::row::WIDTH;
-use qs::{refusal, Config, Reading, Written};
+use super::{lent, outcome, parsed, settings, ticket as at, tree, Numbers};
+use model::{Outcome, WriteOutcome};
+use qs::raw::{self, Reading, Written};
+use qs::{refusal, Config, Lent, RECORD_WORDS};
 
-/// What an output holds before: marks of a query string among other bytes, and not the same at places that are near each other.
+/// What an output holds before: marks of a query string among other bytes, and not the same at
+/// places that are near each other.
 pub fn out_before(length: usize) -> Vec<u8> {
     let byte = |place: usize| b"&=[]%"[place % 5] ^ ((place % 127) << 1) as u8;
     (0..length).map(byte).collect()
@@ -36,7 +37,11 @@ impl Sizes {
 /// What the library answers and leaves.
 pub fn write(config: Config, input: &[u8], sizes: Sizes) -> WriteOutcome {
     let (mut words, mut text, mut out) = sizes.buffers();
-    let Written { reading, length } = qs::write(config, input, &mut words, &mut text, &mut out);
+    let lent = Lent {
+        records: &mut words,
+        text: &mut text,
+    };
+    let Written { reading, length } = raw::write(at(config, input), lent, &mut out);
     WriteOutcome {
         reading: outcome(reading, words, text),
         length,
@@ -101,8 +106,9 @@ impl Counts {
         got
     }
 
-    /// With records and text that suffice, and outputs around the written bytes: none at all, a byte short, just as long, and longer
-    /// by a byte. A refused reading writes nothing. What is written is read back.
+    /// With records and text that suffice, and outputs around the written bytes: none at all, a
+    /// byte short, just as long, and longer by a byte. A refused reading writes nothing. What is
+    /// written is read back.
     pub fn around(&mut self, config: Config, input: &[u8]) -> WriteOutcome {
         let ample = Sizes::ample(input.len());
         let got = self.compare(config, input, ample);
@@ -124,7 +130,8 @@ impl Counts {
         got
     }
 
-    /// The same in an output that is just as long as it need be, by the model, and one that is a byte shorter.
+    /// The same in an output that is just as long as it need be, by the model, and one that is a
+    /// byte shorter.
     pub fn just(&mut self, config: Config, input: &[u8]) {
         let length = model::written(settings(config), input).map_or(0, |ticket| ticket.len());
         let just = Sizes {
@@ -156,61 +163,70 @@ impl Counts {
     }
 }
 
-/// Reads back what was written of an accepted input, in buffers that have no more than what the input's tree uses, and that hold
-/// something else before, namely records that lead to each other in a circle. It is accepted and has the same tree, to the crate too
-/// where it has the settings, and the same is written of it.
+/// Reads back what was written of an accepted input, in buffers that have no more than what the
+/// input's tree uses, and that hold something else before, namely records that lead to each other
+/// in a circle. It is accepted and has the same tree, to the crate too where it has the settings,
+/// and the same is written of it.
 pub fn back(config: Config, input: &[u8], first: &WriteOutcome) {
     if first.reading.number != refusal::ACCEPTED {
         return;
     }
-    let ticket = ticket(first);
-    let described = || {
-        format!(
-            "{config:?} '{}' is written '{}'",
-            start(input),
-            start(ticket)
-        )
-    };
-    let (records, bytes) = (first.reading.records, first.reading.bytes);
-    let lent = || {
-        (
-            vec![1; WIDTH * records as usize],
-            vec![b'['; bytes as usize],
-        )
-    };
-    let expected = Reading {
+    let written = ticket(first);
+    let described = format!(
+        "{config:?} '{}' is written '{}'",
+        start(input),
+        start(written)
+    );
+    read_back(config, first, &described);
+    write_again(config, first, &described);
+}
+
+/// Records and text that have just what a reading uses, all of it something else before.
+fn just(reading: &Outcome) -> (Vec<u32>, Vec<u8>) {
+    let (records, bytes) = (reading.records as usize, reading.bytes as usize);
+    (vec![1; RECORD_WORDS * records], vec![b'['; bytes])
+}
+
+/// What a reading answers that uses as much as another, which was accepted.
+fn as_much(reading: &Outcome) -> Reading {
+    Reading {
         number: refusal::ACCEPTED,
         place: 0,
-        records,
-        bytes,
+        records: reading.records,
+        bytes: reading.bytes,
+    }
+}
+
+fn read_back(config: Config, first: &WriteOutcome, described: &str) {
+    let (written, (mut words, mut text)) = (ticket(first), just(&first.reading));
+    let buffers = Lent {
+        records: &mut words,
+        text: &mut text,
     };
-    let (mut words, mut text) = lent();
-    let reading = qs::parse(config, ticket, &mut words, &mut text);
-    assert_eq!(reading, expected, "read back: {}", described());
+    let reading = raw::parse(at(config, written), buffers);
+    assert_eq!(reading, as_much(&first.reading), "read back: {described}");
     let meant = tree(&first.reading.words, &first.reading.text);
     let same = tree(&words, &text) == meant;
-    assert!(same, "not the tree: {}", described());
+    assert!(same, "not the tree: {described}");
     if !config.zeros {
-        let of_the_crate = serde_qs_reference::parse(ticket, config.depth as usize, config.form);
+        let of_the_crate = serde_qs_reference::parse(written, config.depth as usize, config.form);
         let same = of_the_crate == Ok(meant);
-        assert!(same, "not the crate's tree: {}", described());
+        assert!(same, "not the crate's tree: {described}");
     }
-    let ((mut words, mut text), mut out) = (lent(), vec![b'&'; ticket.len()]);
-    let again = qs::write(config, ticket, &mut words, &mut text, &mut out);
-    let length = first.length;
-    let reading = expected;
-    assert_eq!(
-        again,
-        Written { reading, length },
-        "written again: {}",
-        described()
-    );
-    assert!(
-        out == ticket,
-        "written again as '{}': {}",
-        start(&out),
-        described()
-    );
+}
+
+fn write_again(config: Config, first: &WriteOutcome, described: &str) {
+    let (written, (mut words, mut text)) = (ticket(first), just(&first.reading));
+    let mut out = vec![b'&'; written.len()];
+    let buffers = Lent {
+        records: &mut words,
+        text: &mut text,
+    };
+    let again = raw::write(at(config, written), buffers, &mut out);
+    let (reading, length) = (as_much(&first.reading), first.length);
+    assert_eq!(again, Written { reading, length }, "again: {described}");
+    let same = out == written;
+    assert!(same, "written again as '{}': {described}", start(&out));
 }
 
 /// What is written of an accepted input; it is compared and read back too.
