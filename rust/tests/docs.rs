@@ -423,8 +423,9 @@ fn number_before(text: &str, word: &str) -> Option<usize> {
     front.rsplit(' ').next()?.parse().ok()
 }
 
-/// The number and the place that the library answers to an example, with its settings and space.
-fn answer(ticket: &str, said: &str, records: Option<usize>, bytes: Option<usize>) -> (u32, u32) {
+/// The number and the place that the library answers to an example at its settings, where so many
+/// records and bytes are lent, or where nothing is said of them as many as suffice.
+fn answer(ticket: &str, said: &str, space: (Option<usize>, Option<usize>)) -> (u32, u32) {
     let config = Config {
         depth: number_behind(said, "depth").unwrap_or(Config::new().depth),
         form: said.contains("the flag on"),
@@ -434,8 +435,9 @@ fn answer(ticket: &str, said: &str, records: Option<usize>, bytes: Option<usize>
         config,
         ..Ticket::new(ticket)
     };
-    let mut words = vec![0; qs::RECORD_WORDS * records.unwrap_or(ticket.input.len() + 1)];
-    let mut text = vec![0; bytes.unwrap_or(ticket.input.len())];
+    let length = ticket.input.len();
+    let mut words = vec![0; qs::RECORD_WORDS * space.0.unwrap_or(length + 1)];
+    let mut text = vec![0; space.1.unwrap_or(length)];
     let lent = Lent {
         records: &mut words,
         text: &mut text,
@@ -444,44 +446,35 @@ fn answer(ticket: &str, said: &str, records: Option<usize>, bytes: Option<usize>
     (reading.number, reading.place)
 }
 
+/// READING's examples: the ticket with its settings and space, and what is said of it.
+fn examples(reading: &str) -> Vec<(&str, &str)> {
+    let sections = sections(reading, "## ");
+    let examples = sections.iter().find(|(name, _)| *name == "Examples");
+    let (_, lines) = examples.expect("READING has examples");
+    let rows = lines.iter().filter(|line| line.starts_with("| ")).skip(1);
+    let cells = rows.map(|row| row.trim_matches(['|', ' ']).split_once(" | "));
+    cells.map(|cells| cells.expect("two cells")).collect()
+}
+
 /// What READING says of its examples is so: which are refused, by which number and where, and that
 /// the others are accepted.
 #[test]
 fn the_examples_of_the_reading_are_so() {
     let reading = text("docs/READING.md");
-    let sections = sections(&reading, "## ");
-    let (_, lines) = sections
-        .iter()
-        .find(|(name, _)| *name == "Examples")
-        .expect("examples");
-    let rows = lines.iter().filter(|line| line.starts_with("| ")).skip(1);
     let (mut refused, mut accepted) = (0, 0);
-    for row in rows {
-        let (said, gives) = row
-            .trim_matches(['|', ' '])
-            .split_once(" | ")
-            .expect("two cells");
+    for (said, gives) in examples(&reading) {
         let ticket = quoted(said).first().copied().unwrap_or_default();
-        let (records, bytes) = (
-            number_before(said, "records"),
-            number_before(said, "bytes of text"),
-        );
+        let space = |text| (number_before(text, "records"), number_before(text, "bytes"));
         let expected = match number_behind(gives, "refused by") {
             Some(number) => (number, number_behind(gives, "at").expect("a place")),
             None => (0, 0),
         };
-        assert_eq!(answer(ticket, said, records, bytes), expected, "{row}");
+        assert_eq!(answer(ticket, said, space(said)), expected, "{said}");
         refused += usize::from(expected.0 > 0);
         accepted += usize::from(expected.0 == 0);
-        if let Some((_, suffice)) = gives
-            .split_once("; ")
-            .filter(|(_, rest)| rest.ends_with("suffice"))
-        {
-            let (records, bytes) = (
-                number_before(suffice, "records"),
-                number_before(suffice, "bytes"),
-            );
-            assert_eq!(answer(ticket, said, records, bytes), (0, 0), "{row}");
+        let rest = gives.split_once("; ").map(|(_, rest)| rest);
+        if let Some(suffice) = rest.filter(|rest| rest.ends_with("suffice")) {
+            assert_eq!(answer(ticket, said, space(suffice)), (0, 0), "{said}");
         }
     }
     assert!(
