@@ -3,6 +3,8 @@
 // claim nothing: whatever the words hold, every call ends and changes no word below the free ones (specs/Kept). Who
 // asks tests what is proposed.
 // Below it stand a record's row (row), tags (tags) and laws.
+#![tactic(auto)]
+
 mod blocks; // the fingers of a block
 pub mod fingers; // a child proposed by the fingers, and fingers put in
 mod free; // free words, read and written

@@ -1,5 +1,7 @@
 // Lent slices made zero: what a reading doesn't use, all of them after a refusal, and that of a list.
 // Below it stand laws.
+#![tactic(auto)]
+
 ghost use Rattle.std.specs.Prelude.{◌≡◌, length, replicate};
 
 // Makes every word zero.

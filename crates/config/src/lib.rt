@@ -1,6 +1,8 @@
 // The settings of a reading and their limits: `Config` of the source's src/config.rs.
 // Definitions and contracts take this very struct as their settings record.
 // Nothing stands below it.
+#![tactic(auto)]
+
 ghost use Rattle.std.specs.Prelude.{◌≡◌, ltb};
 ghost use Rattle.config.specs.Defaults.{settings, defaults};
 ghost use Rattle.config.specs.Limits.{max_depth, max_len};

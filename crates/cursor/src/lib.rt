@@ -7,6 +7,8 @@
 // reading.
 // Below it stand what an input means (reading), the key rule (key), decoding (decode), digits (ascii), the settings
 // (config) and laws.
+#![tactic(auto)]
+
 mod collecting;
 mod finding;
 mod scanning;

@@ -4,6 +4,8 @@
 // what many do, in specs/SingleReads.
 // Below it stand the reader (parse), the fields of a tree (fields), the answers of many names (lookups), clearing and
 // the definitions (reading).
+#![tactic(auto)]
+
 ghost use Rattle.std.specs.Prelude.{◌≡◌, ◌≤◌};
 ghost use Rattle.de.specs.Reads.{refused_answer, text_answer, text_read, left_in, list_read};
 ghost use Rattle.de.specs.ListReads.{element_count, list_read_answer, left_by};

@@ -2,6 +2,8 @@
 // `next_byte`, and `shown`, which stands in for the source's `Cow`. Definitions: specs/Decoding and specs/Shown.
 // specs/Agreement compares decoding with WHATWG's, and specs/ShownAfter tells what is shown after it.
 // Below it stands `laws`.
+#![tactic(auto)]
+
 ghost use Rattle.std.specs.Prelude.{◌≡◌, not, ◌+◌, ◌<◌, ◌≤◌, leb, length, take, drop, get_or};
 ghost use Rattle.decode.specs.Hex.{digit_of};
 ghost use Rattle.decode.specs.Decoding.{decoded, plus_to_space, answer_of, answer, written};

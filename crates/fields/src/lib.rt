@@ -3,6 +3,8 @@
 // hold (proofs/Agree).
 // Below it stand the records and the tree that they hold (records, tree), the test for UTF-8 (utf8), clearing and the
 // definitions (reading).
+#![tactic(auto)]
+
 pub mod field; // the field of a name
 pub mod list; // the list of a record
 pub mod text; // the text of a record

@@ -5,6 +5,8 @@
 // word changes but those behind the aids. What is claimed of these is specs/Aids. A new record is made known to them
 // here; putting it in stands above (indexed).
 // Below it stand the store (records), a record's row (row), the keys (key), their tags (tags) and the aids (aids).
+#![tactic(auto)]
+
 ghost use Rattle.std.specs.Prelude.{◌≡◌, ◌≢◌, true, false, length, set, ◌+◌, ◌≤◌, ◌<◌};
 ghost use Rattle.row.specs.Row.{kind_word, child_word, map_kind};
 ghost use Rattle.row.specs.Words.{record_count, word};

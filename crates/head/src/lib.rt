@@ -1,5 +1,7 @@
 // The head of the listing program's input: the settings of a reading, and where the query string starts. Its definition
 // is specs/Heads. Below it stand digits and texts as bytes (ascii) and laws.
+#![tactic(auto)]
+
 ghost use Rattle.std.specs.Prelude.{◌≡◌, true, ◌-◌, ◌<◌, ◌≤◌, length, get_or};
 ghost use Rattle.ascii.specs.Bytes.{zero};
 ghost use Rattle.ascii.specs.Digits.{all_digits, value_from};

@@ -3,6 +3,8 @@
 // the one pass that tests for digits and sums them; specs/KeyOrder is the order of keys, which the definitions and the
 // store cite. Below it stand the settings (config), whose record the rule takes, decoding (decode), digits (ascii) and
 // laws.
+#![tactic(auto)]
+
 ghost use Rattle.std.specs.Prelude.{◌≡◌, List, ℕ};
 ghost use Rattle.key.specs.Collected.{collected, key_in};
 ghost use Rattle.key.specs.Leading.{LongestInt, Tells};

@@ -1,6 +1,8 @@
 // The listing program (READING, 'The listing'): reads a head and a query string from standard input and prints the
 // listing of its reading. What it prints is specs/Reply, what it lends specs/Lending. Below it stand the head's reader
 // (head), the reader of query strings (parse) and the listing's writers (listing, output).
+#![tactic(auto)]
+
 ghost use Rattle.std.specs.Prelude.{◌≡◌};
 ghost use Rattle.reading.specs.Reading.{reading};
 ghost use Rattle.listing.specs.Listing.{listing};

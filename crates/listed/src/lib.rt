@@ -3,6 +3,8 @@
 // The order is specs/Listed, what a record's value is in it specs/Walking; how deep a listed value can lie is
 // specs/Levels. Below it stand the writers into a lent output (output), a record's row (row) and the definitions of a
 // reading (reading).
+#![tactic(auto)]
+
 ghost use Rattle.std.specs.Prelude.{◌≡◌};
 ghost use Rattle.row.specs.Row.{text_word, text_len_word};
 ghost use Rattle.row.specs.Words.{word, text_part};

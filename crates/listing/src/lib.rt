@@ -3,6 +3,8 @@
 // The listing is specs/Listing; that `list` writes it of every reading is specs/Complete, and how long it is
 // specs/Room. Below it stand the values in listing order (listed), the sheet's lines (sheet), the writers into a lent
 // output (output), a record's row (row), the definitions of a reading (reading) and what these stand on.
+#![tactic(auto)]
+
 mod lines; // a value's own lines
 mod values; // the walk over the values
 

@@ -4,3 +4,4 @@
 // Clients cite specs/Meaning, and specs/Readings, which says that every reading leaves what its input means and is
 // accepted where that fits. proofs/Along has the laws of rules at the end of some keys.
 // Below it stand the definitions of a reading (reading) and what these stand on.
+#![tactic(auto)]

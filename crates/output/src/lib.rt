@@ -4,6 +4,8 @@
 // Clients cite specs/Output: `Puts` is the contract of each writer; `filled` is what stands in the output once all is
 // written, and `answer_for` what to answer then. Numbers are specs/Numbers, and specs/Decimals says what `decimal` is.
 // Below it stand bytes by name (ascii) and laws.
+#![tactic(auto)]
+
 pub mod numbers; // decimal and hex
 
 ghost use Rattle.std.specs.Prelude.{◌≡◌, [], ◌∷◌};

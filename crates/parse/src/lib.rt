@@ -2,6 +2,8 @@
 // to `reading` (specs/Outcomes). The demands that follow for one call and for two stand in specs/Demands.
 // Below it stand the reading of the pairs (pairs), the records (records), the aids to finding a child (aids), a
 // record's row (row), the refusals (refusals) and the definitions (reading).
+#![tactic(auto)]
+
 mod parser; // the parser that holds the input
 
 ghost use Rattle.std.specs.Prelude.{◌≡◌, ◌*◌, ◌≤◌, ◌<◌, length};

@@ -1,6 +1,8 @@
 // The sheet of a reading, printed into a lent page (READING, 'The sheet'). What is promised stands in specs/Printing.
 // Below it stand the reader (parse), the walk over the values (listing), the sheet's lines (sheet) and the definitions
 // of a reading (reading).
+#![tactic(auto)]
+
 ghost use Rattle.std.specs.Prelude.{◌≡◌};
 ghost use Rattle.print.specs.Printing.{printing};
 

@@ -3,6 +3,8 @@
 // below, in C's numbers (specs/Numbers, specs/Arguments).
 // Below it stand the reader (parse), field reads (de, fields), the sheet (print), the writer (write), decoding
 // (decode), the test for UTF-8 (utf8), the settings (config) and the answer's struct (reading).
+#![tactic(auto)]
+
 ghost use Rattle.std.specs.Prelude.{◌≡◌};
 ghost use Rattle.config.specs.Numbers.{of_numbers};
 ghost use Rattle.decode.specs.Decoding.{answer, written};

@@ -5,6 +5,8 @@
 // out in specs/Lost.
 // Below it stand the settings (config), the key rule (key), decoding (decode), the refusals (refusals), a record's row
 // (row), bytes by name (ascii) and laws.
+#![tactic(auto)]
+
 ghost use Rattle.std.specs.Prelude.{◌≡◌};
 ghost use Rattle.reading.specs.Reading.{refused_after};
 

@@ -1,6 +1,8 @@
 // The refusals, each said once, and their numbers: what a call answers where it doesn't do what it was asked.
 // Definitions and code take this very enum; `code` (specs/Codes) is its number. 27 and 28 are kept for calls to come.
 // Nothing stands below it.
+#![tactic(auto)]
+
 ghost use Rattle.std.specs.Prelude.{◌≡◌};
 ghost use Rattle.refusals.specs.Codes.{code};
 

@@ -3,3 +3,4 @@
 // writer rests on it: specs/Writable.
 // Below it stand what an input means (meaning), the writer's definition (ser), the definitions of a reading (reading)
 // and what these stand on.
+#![tactic(auto)]

@@ -2,6 +2,8 @@
 // and text by it. Its numbers are specs/Row, and `word` (specs/Words) is a word of a record. All that reads or writes a
 // record stands on it.
 // Nothing stands below it.
+#![tactic(auto)]
+
 ghost use Rattle.std.specs.Prelude.{◌≡◌, ◌<◌, leb};
 ghost use Rattle.row.specs.Row.{record_width};
 ghost use Rattle.row.specs.Words.{record_count, word, with_word, text_part};

@@ -4,3 +4,4 @@
 // for each rule, specs/Others what doesn't come back; proofs/Reading has how what is written is read.
 // Below it stand the definitions of a reading (reading), the key rule (key), the settings (config), decimal and hex
 // (output), bytes by name (ascii) and laws.
+#![tactic(auto)]

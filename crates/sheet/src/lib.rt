@@ -4,6 +4,8 @@
 // sheet is 72 characters and a newline is specs/Widths.
 // Below it stand the values in listing order (listed), the writers into a lent output (output), a record's row (row)
 // and the definitions of a reading (reading).
+#![tactic(auto)]
+
 mod cells; // what stands in the columns, whatever it is of
 
 ghost use Rattle.std.specs.Prelude.{◌++◌};

@@ -1,6 +1,8 @@
 // Shows raw segments: prints the default settings in the form of the listing program's head, and then for each line of
 // standard input, a raw segment, the text shown of it after decoding into 16 bytes (decode's specs/ShownAfter).
 // Below it stand the settings (config) and decoding (decode).
+#![tactic(auto)]
+
 ghost use Rattle.std.specs.Prelude.{◌≤◌, length};
 ghost use Rattle.show.specs.Lines.{EndsAt};
 

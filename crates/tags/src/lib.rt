@@ -1,6 +1,8 @@
 // A key's first bytes as a number, by which most keys are told apart, and bytes compared eight at a time.
 // Definitions: specs/Tags. That the order of the numbers is the order of the keys is proofs/Heads and proofs/KeyTags.
 // Below it stand the keys and their order (key), and laws.
+#![tactic(auto)]
+
 ghost use Rattle.std.specs.Prelude.{◌≡◌, true, length, take, drop};
 ghost use Prim.Native.Nat.{Ordering as NatOrdering};
 ghost use Prim.Native.Nat.{◌+◌, ◌≤◌, min, compare};

@@ -3,6 +3,8 @@
 // What each leaves and answers is what `perform` of the definitions makes of that tree (specs/Commands).
 // Below it stand the store of records (records), the aids to finding a child (aids), a record's row (row), the
 // refusals (refusals), the keys (key), their tags (tags), decoding (decode), the definitions (reading) and laws.
+#![tactic(auto)]
+
 pub mod adding; // a value added
 pub mod entering; // a key entered
 mod laying; // text laid behind what is used

@@ -1,6 +1,8 @@
 // Whether bytes are UTF-8 by RFC 3629 (READING, 'Decoding'). In the source it is `std::str::from_utf8`, which
 // `decode_utf8` of src/de/string_parser.rs calls. What is promised stands in specs/Decides.antt.
 // Below it stands `laws`.
+#![tactic(auto)]
+
 ghost use Rattle.std.specs.Prelude.{◌≡◌};
 ghost use Rattle.utf8.specs.Decides.{Decides};
 ghost use Rattle.utf8.specs.Test.{due, first, next, second, tails, utf8};

@@ -2,6 +2,8 @@
 // promised stands in specs/Writing.
 // Below it stand the reader (parse), the writer of a tree (writer), which trees readings make (round_trip) and the
 // definitions of a reading (reading).
+#![tactic(auto)]
+
 ghost use Rattle.std.specs.Prelude.{◌&&◌, ◌≡◌, leb};
 ghost use Rattle.config.specs.Limits.{max_len};
 ghost use Rattle.write.specs.Writing.{answered, writing};

@@ -2,6 +2,8 @@
 // Clients cite, of the output, specs/Pages, of the tree, specs/Filled, and of a length, specs/Measuring.
 // Below it stand the definition (ser), a record's row (row), the key rule (key), the settings (config), the definitions
 // of a reading (reading), numbers in an output (output), bytes by name (ascii) and laws.
+#![tactic(auto)]
+
 mod bytes; // a byte, escapes and decimal, written where there is room
 mod keys; // a key's own part
 mod walk; // the walk over the values
