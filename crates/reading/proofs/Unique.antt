@@ -18,6 +18,7 @@ before_later l b none e h = tt
 before_later l b (child m d v cs) e h = keys_trans (row_key l) (row_key b) (row_key d) e h
 
 before-all : (l : Row) (cs : Forest) → Before l cs → ShapedMap cs → {k : Key} {w : Tree} → Has k w (entries cs) → compare_keys (row_key l) k ≡ Ordering.lt
+before-all l none e h x = elim x [ ]
 before-all l (child m b v cs) e h here = e
 before-all l (child m b v cs) e h (further i) = before-all l cs (before_later l b cs e h.1) h.3 i
 
