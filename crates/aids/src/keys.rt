@@ -18,7 +18,7 @@ pub(crate) fn next(words: &[u32], n: u32) -> u32 {
 }
 
 // Where the text of a String key of record n starts, and where it ends; 0 and 0 where there is none.
-#[derive(Drop)]
+#[derive(Clone, Copy)]
 pub(crate) struct Part {
     pub start: usize,
     pub end: usize,

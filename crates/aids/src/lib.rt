@@ -17,7 +17,7 @@ pub mod slots; // the child that was touched last
 pub const NO_AIDS: u32 = 4294967295;
 
 // The record among whose children a key is looked for, how many records are used, and how many stand below the aids.
-#[derive(Drop)]
+#[derive(Clone, Copy)]
 pub struct Among {
     pub parent: u32,
     pub used: u32,

@@ -11,7 +11,7 @@ ghost use Rattle.config.specs.Numbers.{of_numbers};
 // How deep brackets nest (`max_depth` in the source); the form flag, under which `%5B` and `%5D` are taken as brackets
 // (`use_form_encoding`); and the key setting, ours, under which zeros in front of a number count: then `07` is a
 // String, another key than `7`.
-#[derive(Drop)]
+#[derive(Clone, Copy)]
 pub struct Config {
     pub depth: usize,
     pub form: bool,

@@ -13,14 +13,14 @@ use key::KeyKind;
 use reading::LeafKind;
 
 // A key, and the taking that ended it, whose cursor has its segment.
-#[derive(Drop)]
+#[derive(Clone, Copy)]
 pub struct CollectedKey {
     pub key: KeyKind,
     pub taken: Taken,
 }
 
 // A value: its kind, where its raw segment ends, and the place after the taking that ended it.
-#[derive(Drop)]
+#[derive(Clone, Copy)]
 pub struct CollectedValue {
     pub leaf: LeafKind,
     pub end: usize,

@@ -8,7 +8,7 @@ use config::Config;
 
 // What is scanned: a value, a bracket's key below the depth, which a `]` ends, a key at the depth, or a root key,
 // which a `[` ends too where brackets nest. (A value's end is found by `value_end`, of which the same is proved.)
-#[derive(Drop)]
+#[derive(Clone, Copy)]
 pub enum Until {
     Value,
     Closing,
@@ -17,7 +17,7 @@ pub enum Until {
 }
 
 // The symbols that end a scan. The end of the input ends every one.
-#[derive(Drop)]
+#[derive(Clone, Copy)]
 struct Stops {
     ampersand: bool,
     equals: bool,

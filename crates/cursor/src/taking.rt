@@ -8,7 +8,7 @@ use config::Config;
 
 // The place, which is the number of bytes taken, and the bounds of the raw segment that is being read (`index` and
 // `acc` in the source).
-#[derive(Drop)]
+#[derive(Clone, Copy)]
 pub struct Cursor {
     pub place: usize,
     pub start: usize,
@@ -16,7 +16,7 @@ pub struct Cursor {
 }
 
 // What a taking yields: `&`, `=`, `[`, `]`, another byte, or the input's end.
-#[derive(Drop)]
+#[derive(Clone, Copy)]
 pub enum Symbol {
     Ampersand,
     Equals,
@@ -27,14 +27,14 @@ pub enum Symbol {
 }
 
 // What a taking yields, and the cursor after it.
-#[derive(Drop)]
+#[derive(Clone, Copy)]
 pub struct Taken {
     pub symbol: Symbol,
     pub cursor: Cursor,
 }
 
 // An escaped `[`, an escaped `]`, or neither.
-#[derive(Drop)]
+#[derive(Clone, Copy)]
 enum Escape {
     Opens,
     Closes,

@@ -25,7 +25,7 @@ use refusals::Refusal;
 // What a field read answers: the reading's numbers, with the field's own number where it has one, and the text's
 // offset and length (of a list, 0 and the number of elements). C gets it as it stands.
 #[repr(C)]
-#[derive(Drop)]
+#[derive(Clone, Copy)]
 pub struct FieldRead {
     pub reading: Reading,
     pub offset: u32,

@@ -14,14 +14,14 @@ ghost use Rattle.decode.specs.Shown.{all_plain, length_of, shown_of};
 mod writing; // the decoded bytes written
 
 // The answer of `decode`: the number of bytes written, or that they don't fit.
-#[derive(Drop)]
+#[derive(Clone, Copy)]
 pub enum Decoded {
     Yes(usize),
     No,
 }
 
 // One byte of the decoding, where the next is read, and how many raw bytes from there on are swallowed unchanged.
-#[derive(Drop)]
+#[derive(Clone, Copy)]
 pub struct NextByte {
     pub byte: u8,
     pub next: usize,

@@ -65,7 +65,7 @@ fn percent_by(raw: &[u8], i: usize, hex: &[u8; 256]) -> usize
 }
 
 // Where the decoding stands: the next raw byte, and the next byte of the output.
-#[derive(Drop)]
+#[derive(Clone, Copy)]
 struct Place {
     from: usize,
     to: usize,

@@ -8,7 +8,7 @@ ghost use Rattle.fields.specs.OnRecords.{Readable, is_named_at, named_at, field_
 use refusals::Refusal;
 
 // The record of a field, or a refusal.
-#[derive(Drop)]
+#[derive(Clone, Copy)]
 pub enum FieldAt {
     Record(u32),
     Refused(Refusal),

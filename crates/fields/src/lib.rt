@@ -11,7 +11,7 @@ pub mod text; // the text of a record
 
 // `DuplicateKeyBehavior` of the source: where a text is asked for and the field has several values, the last is taken
 // or they are refused.
-#[derive(Drop)]
+#[derive(Clone, Copy)]
 pub enum DuplicateKeyBehavior {
     TakeLast,
     Error,

@@ -12,7 +12,7 @@ use clearing::clear_words;
 use refusals::Refusal;
 
 // The number of elements, or a refusal.
-#[derive(Drop)]
+#[derive(Clone, Copy)]
 pub enum ListRead {
     Elements(usize),
     Refused(Refusal),

@@ -11,7 +11,7 @@ use records::siblings;
 use refusals::Refusal;
 
 // A text's offset and length, or a refusal.
-#[derive(Drop)]
+#[derive(Clone, Copy)]
 pub enum TextRead {
     Text(u32, u32),
     Refused(Refusal),

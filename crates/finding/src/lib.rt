@@ -33,14 +33,14 @@ const FIRST: u32 = 16;
 const FROM_FINGER: u32 = 8;
 
 // Where a walk along siblings stands: at one, behind another, 0 standing for none.
-#[derive(Drop)]
+#[derive(Clone, Copy)]
 pub struct Walk {
     pub prev: u32,
     pub cur: u32,
 }
 
 // The answer of a try: the position, or that it lies further on.
-#[derive(Drop)]
+#[derive(Clone, Copy)]
 pub enum Tried {
     At(Position),
     Further,

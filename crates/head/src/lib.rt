@@ -8,7 +8,7 @@ ghost use Rattle.ascii.specs.Digits.{all_digits, value_from};
 ghost use Rattle.head.specs.Heads.{begins, leading_digits, is_depth, flag_in, depth_in, head_of};
 
 // The settings of a reading and where the query string, READING's ticket, starts; or that the head is bad.
-#[derive(Drop)]
+#[derive(Clone, Copy)]
 pub enum Head {
     Bad,
     Good {

@@ -19,7 +19,7 @@ use records::store::{KeyWords, Record, ValueWords};
 use records::{siblings, store};
 
 // The answer of `append`: how many records are used then, or that there are too few.
-#[derive(Drop)]
+#[derive(Clone, Copy)]
 pub enum Appended {
     Used(u32),
     TooFew,

@@ -12,7 +12,7 @@ ghost use Rattle.key.specs.Leading.{LongestInt, Tells};
 use config::Config;
 
 // The kind of key that a segment is (READING, 'Keys'): none, an Int of a value, or a String, its bytes decoded.
-#[derive(Drop)]
+#[derive(Clone, Copy)]
 pub enum KeyKind {
     None,
     Int(u32),
@@ -20,7 +20,7 @@ pub enum KeyKind {
 }
 
 // The longest Int that bytes begin with: how many digits it has, and its value. Of none both are 0.
-#[derive(Drop)]
+#[derive(Clone, Copy)]
 pub struct LeadingInt {
     pub len: usize,
     pub value: u32,

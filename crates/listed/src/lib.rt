@@ -12,7 +12,7 @@ ghost use Rattle.output.specs.Output.{page, Puts};
 ghost use Rattle.listed.specs.Walking.{kind_shown};
 
 // A value that is to be listed: its record, whether it stands under a key, as a Map's child does, and its level.
-#[derive(Drop)]
+#[derive(Clone, Copy)]
 pub struct Item {
     pub n: u32,
     pub keyed: bool,

@@ -10,14 +10,14 @@ use crate::lines;
 use listed::Item;
 
 // How a value is written: as the four lines of the listing, or as a line of the sheet.
-#[derive(Drop)]
+#[derive(Clone, Copy)]
 pub enum Style {
     Lines,
     Sheet,
 }
 
 // The place of the next byte in the output, and how many records are left to be listed.
-#[derive(Drop)]
+#[derive(Clone, Copy)]
 pub struct Progress {
     pub at: usize,
     pub left: usize,

@@ -13,7 +13,7 @@ use refusals::code;
 pub const WIDTH: usize = 3;
 
 // What a text read answers, as C gets it: the number, 0 where there is a text, and the text's offset and length.
-#[derive(Drop)]
+#[derive(Clone, Copy)]
 pub struct Answer {
     pub number: u32,
     pub offset: u32,

@@ -12,7 +12,7 @@ ghost use Rattle.std.specs.Prelude.{◌≡◌, [], ◌∷◌};
 ghost use Rattle.output.specs.Output.{answer_at, page, Puts};
 
 // What is told of an output once all is written: the number of bytes, or that it holds only the first of them.
-#[derive(Drop)]
+#[derive(Clone, Copy)]
 pub enum Written {
     Whole(usize),
     Cut,

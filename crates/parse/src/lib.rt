@@ -32,7 +32,7 @@ use refusals::Refusal;
 use tree::Here;
 
 // The answer of a reading: accepted, with the records and the text bytes used; or the refusal and its place.
-#[derive(Drop)]
+#[derive(Clone, Copy)]
 pub enum Parsed {
     Accepted(u32, u32),
     Refused(Refusal, u32),

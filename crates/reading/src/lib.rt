@@ -15,7 +15,7 @@ use refusals::{Refusal, code};
 // What a reading answers (READING, 'Records'): its number, which is 0 if it is accepted; the place of a refusal, else
 // 0; and how many records and bytes of text it uses, none if it is refused. C gets it as it stands.
 #[repr(C)]
-#[derive(Drop)]
+#[derive(Clone, Copy)]
 pub struct Reading {
     pub number: u32,
     pub place: u32,
@@ -39,7 +39,7 @@ impl Reading {
 
 // The kind of a single value (READING, 'Growth') that is added to a tree; a String is a raw segment, which stands
 // beside it, decoded.
-#[derive(Drop)]
+#[derive(Clone, Copy)]
 pub enum LeafKind {
     Null,
     NoValue,

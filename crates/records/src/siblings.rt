@@ -12,7 +12,7 @@ use crate::{keys, store};
 use key::KeyKind;
 
 // Where a key stands among the children of a map: at a child, or between two, 0 standing for none.
-#[derive(Drop)]
+#[derive(Clone, Copy)]
 pub enum Position {
     Found(u32),
     Between(u32, u32),

@@ -4,7 +4,7 @@ ghost use Rattle.row.specs.Words.{record_count};
 ghost use Rattle.records.specs.Records.{value_at, key_fields, with_words, with_value, with_record};
 
 // The words of a key: its kind, an Int's value or a String's offset in the text, and a String's length.
-#[derive(Drop)]
+#[derive(Clone, Copy)]
 pub struct KeyWords {
     pub kind: u32,
     pub offset: u32,
@@ -12,7 +12,7 @@ pub struct KeyWords {
 }
 
 // The words of a value without its children: its kind, and a String's offset in the text and length.
-#[derive(Drop)]
+#[derive(Clone, Copy)]
 pub struct ValueWords {
     pub kind: u32,
     pub offset: u32,
@@ -20,7 +20,7 @@ pub struct ValueWords {
 }
 
 // A record without its links to other records.
-#[derive(Drop)]
+#[derive(Clone, Copy)]
 pub struct Record {
     pub key: KeyWords,
     pub value: ValueWords,

@@ -8,7 +8,7 @@ ghost use Rattle.refusals.specs.Codes.{code};
 
 // READING, 'Refusals', in the order of their numbers. 24 and 25 are asked before 1, and 16 to 23 and 26 once the
 // reading is accepted.
-#[derive(Drop)]
+#[derive(Clone, Copy)]
 pub enum Refusal {
     // 1 to 3, before the first byte: the depth above its limit, the input above its, fewer words lent than a record
     // has.

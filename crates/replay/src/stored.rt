@@ -7,7 +7,7 @@ use reading::Reading;
 
 // What stands at the front of a case: the settings, what is lent, the input's length, and what the reading has to
 // answer.
-#[derive(Drop)]
+#[derive(Clone, Copy)]
 pub(crate) struct Case {
     pub depth: u32,
     pub form: u32,

@@ -10,7 +10,7 @@ ghost use Rattle.key.specs.KeyOrder.{compare_bytes};
 ghost use Rattle.tags.specs.Tags.{ordering_of, leading, head_of};
 
 // Where one thing stands to another, as in the standard library of Rust.
-#[derive(Drop)]
+#[derive(Clone, Copy)]
 pub enum Ordering {
     Less,
     Equal,

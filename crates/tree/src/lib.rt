@@ -14,7 +14,7 @@ use refusals::Refusal;
 
 // Where the tree stands: how many records and bytes of text it uses, the record that a command is for, and how many
 // records stand below the aids.
-#[derive(Drop)]
+#[derive(Clone, Copy)]
 pub struct Here {
     pub records: u32,
     pub bytes: u32,
@@ -23,7 +23,7 @@ pub struct Here {
 }
 
 // The answer of a command, in the place of the source's `Result`: where the tree stands then, or a refusal.
-#[derive(Drop)]
+#[derive(Clone, Copy)]
 pub enum Performed {
     Made(Here),
     Refused(Refusal),

@@ -8,7 +8,7 @@ ghost use Rattle.utf8.specs.Decides.{Decides};
 ghost use Rattle.utf8.specs.Test.{due, first, next, second, tails, utf8};
 
 // How many more bytes are needed to end a character, and the bounds of the next of them, both included.
-#[derive(Drop)]
+#[derive(Clone, Copy)]
 struct Due {
     needed: u8,
     lower: u8,

@@ -15,7 +15,7 @@ use refusals::Refusal;
 // What is answered: the reading's four numbers, or the writer's own refusal with the counts that the reading left, and
 // the length of what is written, 0 on refusal. C gets it as it stands.
 #[repr(C)]
-#[derive(Drop)]
+#[derive(Clone, Copy)]
 pub struct Written {
     pub number: u32,
     pub place: u32,

@@ -17,7 +17,7 @@ use config::Config;
 use output::numbers;
 
 // The digits of a number turned round: the first of them is the lowest of `back`.
-#[derive(Drop)]
+#[derive(Clone, Copy)]
 pub struct Digits {
     pub back: u64,
     pub len: usize,

@@ -11,7 +11,7 @@ use crate::bytes;
 use config::Config;
 
 // A keyed record, and the listed level at which it stands.
-#[derive(Drop)]
+#[derive(Clone, Copy)]
 pub struct Keyed {
     pub n: u32,
     pub level: usize,

@@ -21,7 +21,7 @@ use config::Config;
 
 // Where a value stands: the key in front of it, from `start` to `end` in the output, its listed level, and whether the
 // elements of a Sequence there repeat that key.
-#[derive(Drop)]
+#[derive(Clone, Copy)]
 pub struct Place {
     pub start: usize,
     pub end: usize,
@@ -30,7 +30,7 @@ pub struct Place {
 }
 
 // A value that is to be written: its record, the steps that are left, and where it stands.
-#[derive(Drop)]
+#[derive(Clone, Copy)]
 pub struct Item {
     pub n: u32,
     pub left: usize,
@@ -38,7 +38,7 @@ pub struct Item {
 }
 
 // Which siblings are written, and how: a Map's under keys that aren't empty, a Map's under the empty key, a Sequence's.
-#[derive(Drop)]
+#[derive(Clone, Copy)]
 pub enum Part {
     Named,
     Empty,
@@ -47,7 +47,7 @@ pub enum Part {
 
 // A child that is to be written: how, its record, and where its parent stands; of a Sequence's child, where it stands
 // itself.
-#[derive(Drop)]
+#[derive(Clone, Copy)]
 pub struct Child {
     pub part: Part,
     pub n: u32,
@@ -55,7 +55,7 @@ pub struct Child {
 }
 
 // The place of the next byte, and whether the key is written there already and no pair follows it yet.
-#[derive(Drop)]
+#[derive(Clone, Copy)]
 pub struct Progress {
     pub at: usize,
     pub fresh: bool,
@@ -63,7 +63,7 @@ pub struct Progress {
 
 // How far the pairs of siblings are written, and whether one of them was skipped: 0 if none was, else 1. (A word, since
 // the padding behind a bool costs time.)
-#[derive(Drop)]
+#[derive(Clone, Copy)]
 pub struct Reached {
     pub progress: Progress,
     pub skipped: usize,
