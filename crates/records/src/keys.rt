@@ -157,8 +157,8 @@ pub fn tag_of(key: KeyKind, text: &[u8], start: usize, len: usize) -> u64
 
 // Where the key of record n, a String, stands to another.
 fn compare_long(words: &[u32], text: &[u8], n: u32, name: &[u8]) -> Ordering
-    requires n_bound { (n < record_count words.now) × InText text.now (key_words_at words.now n) }
-    requires key_kind_word_nonzero { word words.now n key_kind_word ≢ int_key_kind }
+    requires inside { (n < record_count words.now) × InText text.now (key_words_at words.now n) }
+    requires is_string { word words.now n key_kind_word ≢ int_key_kind }
     ensures { ordering_of result ≡ compare_keys (key_at words.now text.now n)
         (str name.now) }
 {
