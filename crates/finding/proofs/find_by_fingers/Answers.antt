@@ -1,0 +1,18 @@
+-- The rest of the walk that starts at the finger has the position, in words of which those below the free ones are kept.
+use Rattle.aids.proofs.Keeps.{kept_trans}
+use mathlib.Core.Path.{◌∙◌}
+use Rattle.finding.proofs.Finds.{asked-kept, asked-position, tell}
+use Rattle.finding.proofs.find_by_fingers.Goals as goal
+
+pub walk_from-walk-requires : goal.walk_from-walk-requires
+walk_from-walk-requires c =
+    record { fact_1 = asked-kept c.requires.fact_1 c.propose-child.ensures; fact_2 = c.requires.fact_2 }
+
+pub returns-in-At : goal.returns-in-At
+returns-in-At c =
+    record { position = tell _ _ _ c.walk_some.ensures c.in-At.is ∙ c.walk_from-walk.ensures.so_far ∙ asked-position
+          c.requires.fact_1 c.propose-child.ensures _; kept = c.propose-child.ensures }
+
+pub returns-in-Further : goal.returns-in-Further
+returns-in-Further c =
+    record { position = c.walk_all-position.ensures ∙ c.walk_from-walk.ensures.so_far ∙ asked-position c.requires.fact_1 c.propose-child.ensures _; kept = kept_trans c.propose-child.ensures c.walk_far.ensures }

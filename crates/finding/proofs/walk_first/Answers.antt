@@ -1,0 +1,6 @@
+-- The children are the siblings from the first child on.
+use Rattle.finding.proofs.Finds.{asked-first}
+use Rattle.finding.proofs.walk_first.Goals as goal
+
+pub returns : goal.returns
+returns c = rw c.get_word-first.ensures (asked-first c.requires)
