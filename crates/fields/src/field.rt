@@ -35,8 +35,8 @@ fn same_bytes(a: &[u8], b: &[u8]) -> bool
 
 // Whether the key of record n is the String name. The name is not decoded.
 fn is_named(words: &[u32], text: &[u8], n: u32, name: &[u8]) -> bool
-    requires fact_1 { Readable words.now text.now }
-    requires fact_2 { n < record_count words.now }
+    requires readable { Readable words.now text.now }
+    requires inside { n < record_count words.now }
     ensures { result ≡ is_named_at words.now text.now name.now n }
 {
     let kind = row::get_word(words, n, row::KEY_KIND);
@@ -50,8 +50,8 @@ fn is_named(words: &[u32], text: &[u8], n: u32, name: &[u8]) -> bool
 
 // The child of the root that has the name.
 fn find_named(words: &[u32], text: &[u8], name: &[u8]) -> FieldAt
-    requires fact_1 { Readable words.now text.now }
-    requires fact_2 { 0 < record_count words.now }
+    requires readable { Readable words.now text.now }
+    requires inside { 0 < record_count words.now }
     ensures { result ≡ named_at words.now text.now name.now
         (children words.now 0) }
 {
@@ -68,8 +68,8 @@ fn find_named(words: &[u32], text: &[u8], name: &[u8]) -> FieldAt
 // The field of a name in the root, as the source's `deserialize_map` and `field_order` (in `MapDeserializer`) find it.
 // A String root is the field of the empty name itself.
 pub(crate) fn root_field(words: &[u32], text: &[u8], name: &[u8]) -> FieldAt
-    requires fact_1 { Readable words.now text.now }
-    requires fact_2 { 0 < record_count words.now }
+    requires readable { Readable words.now text.now }
+    requires inside { 0 < record_count words.now }
     ensures { result ≡ field_at words.now text.now name.now }
 {
     let kind = row::get_word(words, 0, row::KIND);

@@ -29,8 +29,8 @@ fn write_element(list: &mut [u32], i: usize, offset: u32, len: u32)
 
 // Whether every child of a record has an Int key.
 fn has_int_keys(words: &[u32], n: u32) -> bool
-    requires fact_1 { Linked words.now (record_count words.now) }
-    requires fact_2 { n < record_count words.now }
+    requires linked { Linked words.now (record_count words.now) }
+    requires inside { n < record_count words.now }
     ensures { result ≡ int_keys_at words.now (children words.now n) }
 {
     let mut cur = row::get_word(words, n, row::CHILD);
@@ -46,8 +46,8 @@ fn has_int_keys(words: &[u32], n: u32) -> bool
 
 // How many children a record has.
 fn count_children(words: &[u32], n: u32) -> usize
-    requires fact_1 { Linked words.now (record_count words.now) }
-    requires fact_2 { n < record_count words.now }
+    requires linked { Linked words.now (record_count words.now) }
+    requires inside { n < record_count words.now }
     ensures { result ≡ length (children words.now n) }
 {
     let mut count: usize = 0;
@@ -80,8 +80,8 @@ fn read_element(
     n: u32,
     duplicates: DuplicateKeyBehavior,
 ) -> TextRead
-    requires fact_1 { Readable words.now text.now }
-    requires fact_2 { n < record_count words.now }
+    requires readable { Readable words.now text.now }
+    requires inside { n < record_count words.now }
     ensures { result ≡ element_at duplicates words.now text.now i n }
 {
     if is_next(words, i, n) {
@@ -98,10 +98,10 @@ fn read_in_turn(
     duplicates: DuplicateKeyBehavior,
     list: &mut [u32],
 ) -> ListRead
-    requires fact_1 { Readable words.now text.now }
-    requires fact_2 { n < record_count words.now }
-    requires fact_3 { list.old ≡ replicate (length list.old) 0 }
-    requires fact_4 { 2 * length (children words.now n) ≤ length list.old }
+    requires readable { Readable words.now text.now }
+    requires inside { n < record_count words.now }
+    requires clear { list.old ≡ replicate (length list.old) 0 }
+    requires room { 2 * length (children words.now n) ≤ length list.old }
     ensures { Writes (length list.old) list.new
         (in_turn_at duplicates words.now text.now 0 (children words.now n)) result }
 {
@@ -130,9 +130,9 @@ fn read_children(
     duplicates: DuplicateKeyBehavior,
     list: &mut [u32],
 ) -> ListRead
-    requires fact_1 { Readable words.now text.now }
-    requires fact_2 { n < record_count words.now }
-    requires fact_3 { list.old ≡ replicate (length list.old) 0 }
+    requires readable { Readable words.now text.now }
+    requires inside { n < record_count words.now }
+    requires clear { list.old ≡ replicate (length list.old) 0 }
     ensures { Writes (length list.old) list.new
         (elements_at duplicates words.now text.now (length list.old) n) result }
 {
@@ -145,9 +145,9 @@ fn read_children(
 
 // Reads a String as the one element of a list into a cleared slice.
 fn read_one(words: &[u32], text: &[u8], n: u32, list: &mut [u32]) -> ListRead
-    requires fact_1 { Readable words.now text.now }
-    requires fact_2 { n < record_count words.now }
-    requires fact_3 { list.old ≡ replicate (length list.old) 0 }
+    requires readable { Readable words.now text.now }
+    requires inside { n < record_count words.now }
+    requires clear { list.old ≡ replicate (length list.old) 0 }
     ensures { Writes (length list.old) list.new
         (one_at words.now text.now (length list.old) n) result }
 {
@@ -171,9 +171,9 @@ fn read_list(
     duplicates: DuplicateKeyBehavior,
     list: &mut [u32],
 ) -> ListRead
-    requires fact_1 { Readable words.now text.now }
-    requires fact_2 { n < record_count words.now }
-    requires fact_3 { list.old ≡ replicate (length list.old) 0 }
+    requires readable { Readable words.now text.now }
+    requires inside { n < record_count words.now }
+    requires clear { list.old ≡ replicate (length list.old) 0 }
     ensures { Writes (length list.old) list.new
         (list_at duplicates words.now text.now (length list.old) n) result }
 {
@@ -204,8 +204,8 @@ pub fn field_list(
     duplicates: DuplicateKeyBehavior,
     list: &mut [u32],
 ) -> ListRead
-    requires fact_1 { Readable words.now text.now }
-    requires fact_2 { 0 < record_count words.now }
+    requires readable { Readable words.now text.now }
+    requires inside { 0 < record_count words.now }
     ensures { Writes (length list.old) list.new
         (field_list_at duplicates words.now text.now (length list.old)
         (field_at words.now text.now name.now)) result }

@@ -19,8 +19,8 @@ pub enum TextRead {
 
 // The text of a String.
 fn string_text(words: &[u32], text: &[u8], n: u32) -> TextRead
-    requires fact_1 { Readable words.now text.now }
-    requires fact_2 { n < record_count words.now }
+    requires readable { Readable words.now text.now }
+    requires inside { n < record_count words.now }
     ensures { result ≡ string_text_at words.now text.now n }
 {
     let offset = row::get_word(words, n, row::TEXT);
@@ -36,8 +36,8 @@ fn string_text(words: &[u32], text: &[u8], n: u32) -> TextRead
 
 // The text of a record that is no Sequence: a String's where it is UTF-8, and the empty one of Null and NoValue.
 pub(crate) fn single_text(words: &[u32], text: &[u8], n: u32) -> TextRead
-    requires fact_1 { Readable words.now text.now }
-    requires fact_2 { n < record_count words.now }
+    requires readable { Readable words.now text.now }
+    requires inside { n < record_count words.now }
     ensures { result ≡ single_text_at words.now text.now n }
 {
     let kind = row::get_word(words, n, row::KIND);
@@ -66,8 +66,8 @@ fn has_several(words: &[u32], first: u32, duplicates: DuplicateKeyBehavior) -> b
 
 // The text of a Sequence: its last element's (`get_last_string_value` in the source).
 fn sequence_text(words: &[u32], text: &[u8], n: u32, duplicates: DuplicateKeyBehavior) -> TextRead
-    requires fact_1 { Readable words.now text.now }
-    requires fact_2 { n < record_count words.now }
+    requires readable { Readable words.now text.now }
+    requires inside { n < record_count words.now }
     ensures { result ≡ sequence_text_at duplicates words.now text.now n }
 {
     let first = row::get_word(words, n, row::CHILD);
@@ -88,8 +88,8 @@ pub(crate) fn read_text(
     n: u32,
     duplicates: DuplicateKeyBehavior,
 ) -> TextRead
-    requires fact_1 { Readable words.now text.now }
-    requires fact_2 { n < record_count words.now }
+    requires readable { Readable words.now text.now }
+    requires inside { n < record_count words.now }
     ensures { result ≡ text_at duplicates words.now text.now n }
 {
     let kind = row::get_word(words, n, row::KIND);
@@ -106,8 +106,8 @@ pub fn field_text(
     name: &[u8],
     duplicates: DuplicateKeyBehavior,
 ) -> TextRead
-    requires fact_1 { Readable words.now text.now }
-    requires fact_2 { 0 < record_count words.now }
+    requires readable { Readable words.now text.now }
+    requires inside { 0 < record_count words.now }
     ensures { result ≡ field_text_at duplicates words.now text.now
         (field_at words.now text.now name.now) }
 {

@@ -65,8 +65,8 @@ fn is_child(words: &[u32], among: Among, c: u32) -> bool
 
 // The position of a key in the rest of a walk, if it is among so many siblings.
 fn walk_some(words: &[u32], text: &[u8], walk: Walk, steps: u32, tag: u64, name: &[u8]) -> Tried
-    requires fact_1 { ForSome (λ used. WellFormed words.now text.now used × ChainEnds words.now used walk.cur) }
-    requires fact_2 { Sought (tagged_key tag name.now) tag name.now }
+    requires well_formed { ForSome (λ used. WellFormed words.now text.now used × ChainEnds words.now used walk.cur) }
+    requires sought { Sought (tagged_key tag name.now) tag name.now }
     ensures { Tells (seek (standing words.now text.now (tagged_key tag name.now))
         walk.prev (chain words.now (record_count words.now) walk.cur)) result }
 {
@@ -96,8 +96,8 @@ fn walk_some(words: &[u32], text: &[u8], walk: Walk, steps: u32, tag: u64, name:
 
 // The position of a key in the rest of a walk.
 fn walk_all(words: &[u32], text: &[u8], walk: Walk, tag: u64, name: &[u8]) -> Position
-    requires fact_1 { ForSome (λ used. WellFormed words.now text.now used × ChainEnds words.now used walk.cur) }
-    requires fact_2 { Sought (tagged_key tag name.now) tag name.now }
+    requires well_formed { ForSome (λ used. WellFormed words.now text.now used × ChainEnds words.now used walk.cur) }
+    requires sought { Sought (tagged_key tag name.now) tag name.now }
     ensures { result ≡ seek (standing words.now text.now (tagged_key tag name.now))
         walk.prev (chain words.now (record_count words.now) walk.cur) }
 {
@@ -136,8 +136,8 @@ fn walk_first(words: &[u32], text: &[u8], among: Among, tag: u64, name: &[u8]) -
 
 // A walk from a child that is proposed on, if it is one and its key does not stand behind the key, else from the first.
 fn walk_from(words: &[u32], text: &[u8], among: Among, child: u32, tag: u64, name: &[u8]) -> Walk
-    requires fact_1 { Asked words.now text.now among tag name.now }
-    requires fact_2 { among.aids ≢ no_aids }
+    requires asked { Asked words.now text.now among tag name.now }
+    requires aided { among.aids ≢ no_aids }
     ensures { Walking (standing words.now text.now (tagged_key tag name.now))
         words.now text.now 0 (word words.now among.parent child_word)
         result.prev result.cur }
@@ -167,8 +167,8 @@ fn walk_from(words: &[u32], text: &[u8], among: Among, child: u32, tag: u64, nam
 
 // The position of a key by the fingers. A long walk is noted.
 fn find_by_fingers(words: &mut [u32], text: &[u8], among: Among, tag: u64, name: &[u8]) -> Position
-    requires fact_1 { Asked words.old text.now among tag name.now }
-    requires fact_2 { among.aids ≢ no_aids }
+    requires asked { Asked words.old text.now among tag name.now }
+    requires aided { among.aids ≢ no_aids }
     ensures position { result ≡ position words.old text.now (tagged_key tag name.now)
         among.parent }
     ensures kept { Kept (free_from among.aids) words.old words.new }
@@ -212,8 +212,8 @@ fn settle(words: &mut [u32], text: &[u8], among: Among, position: Position) -> P
 
 // The child touched last, if it has the key, or 0: so most keys that come again are found, without a tag.
 pub fn find_again(words: &[u32], text: &[u8], among: Among, key: KeyKind, name: &[u8]) -> u32
-    requires fact_1 { Ready words.now text.now among.used among.aids }
-    requires fact_2 { (among.parent < among.used)
+    requires ready { Ready words.now text.now among.used among.aids }
+    requires inside { (among.parent < among.used)
         × (word words.now among.parent kind_word ≡ map_kind) }
     ensures { result ≢ 0 → Found result ≡ position words.now text.now
         (sought_key key false name.now) among.parent }
@@ -232,8 +232,8 @@ pub fn find_again(words: &[u32], text: &[u8], among: Among, key: KeyKind, name: 
 
 // The position of a key if it stands at the slot's child or beside it.
 fn try_slot(words: &[u32], text: &[u8], among: Among, tag: u64, name: &[u8]) -> Tried
-    requires fact_1 { Asked words.now text.now among tag name.now }
-    requires fact_2 { among.aids ≢ no_aids }
+    requires asked { Asked words.now text.now among tag name.now }
+    requires aided { among.aids ≢ no_aids }
     ensures { Tells (position words.now text.now (tagged_key tag name.now)
         among.parent) result }
 {
@@ -260,8 +260,8 @@ fn try_first(words: &[u32], text: &[u8], among: Among, tag: u64, name: &[u8]) ->
 
 // The position of a key, by the first children or by the fingers.
 pub fn find_far(words: &mut [u32], text: &[u8], among: Among, tag: u64, name: &[u8]) -> Position
-    requires fact_1 { Asked words.old text.now among tag name.now }
-    requires fact_2 { among.aids ≢ no_aids }
+    requires asked { Asked words.old text.now among tag name.now }
+    requires aided { among.aids ≢ no_aids }
     ensures position { result ≡ position words.old text.now (tagged_key tag name.now)
         among.parent }
     ensures kept { Kept (free_from among.aids) words.old words.new }

@@ -74,8 +74,8 @@ fn walk_at(prev: u32, cur: u32) -> Walk
 
 // The position of the empty key among the children of a Map.
 fn find_empty(words: &mut [u32], text: &[u8], among: Among) -> Position
-    requires fact_1 { Ready words.old text.now among.used among.aids }
-    requires fact_2 { (among.parent < among.used)
+    requires ready { Ready words.old text.now among.used among.aids }
+    requires inside { (among.parent < among.used)
         × (word words.old among.parent kind_word ≡ map_kind) }
     ensures position { result ≡ position words.old text.now (str []) among.parent }
     ensures kept { Kept (free_from among.aids) words.old words.new }
@@ -88,8 +88,8 @@ fn find_empty(words: &mut [u32], text: &[u8], among: Among) -> Position
 
 // Adds a value as a new child under the empty key of a Map, in a gap among its children.
 fn add_child(words: &mut [u32], text: &[u8], among: Among, gap: Walk, value: ValueWords) -> Appended
-    requires fact_1 { Ready words.old text.now among.used among.aids }
-    requires fact_2 { (among.parent < among.used)
+    requires ready { Ready words.old text.now among.used among.aids }
+    requires inside { (among.parent < among.used)
         × (among.used + 2 < 2 ^ 32) × Gap words.old among.parent gap.prev gap.cur }
     ensures { Leaves (child_added words.old among.used among.parent gap.prev gap.cur value)
         among.aids words.new result }
@@ -135,8 +135,8 @@ fn make_sequence(words: &mut [u32], used: u32, n: u32, value: ValueWords)
 
 // Adds a value at a record that holds a single value.
 fn pair(words: &mut [u32], among: Among, value: ValueWords) -> Appended
-    requires fact_1 { Growable words.old among }
-    requires fact_2 { (word words.old among.parent kind_word ≢ map_kind)
+    requires growable { Growable words.old among }
+    requires single { (word words.old among.parent kind_word ≢ map_kind)
         × (word words.old among.parent kind_word ≢ sequence_kind) }
     ensures { Leaves (paired words.old among.used among.parent value) among.aids
         words.new result }
@@ -152,8 +152,8 @@ fn pair(words: &mut [u32], among: Among, value: ValueWords) -> Appended
 
 // Adds a value at a record that is no Map.
 fn append_here(words: &mut [u32], among: Among, value: ValueWords) -> Appended
-    requires fact_1 { Growable words.old among }
-    requires fact_2 { word words.old among.parent kind_word ≢ map_kind }
+    requires growable { Growable words.old among }
+    requires no_map { word words.old among.parent kind_word ≢ map_kind }
     ensures { Leaves (appended_here words.old among.used among.parent value) among.aids
         words.new result }
 {
@@ -192,8 +192,8 @@ fn append(words: &mut [u32], text: &[u8], among: Among, value: ValueWords) -> Ap
 // The same. A record that is no Map, as most are, is seen here, and structs made anew are handed on: so the compiler
 // keeps the parts in registers.
 pub fn add(words: &mut [u32], text: &[u8], among: Among, value: ValueWords) -> Appended
-    requires fact_1 { Ready words.old text.now among.used among.aids }
-    requires fact_2 { (among.parent < among.used)
+    requires ready { Ready words.old text.now among.used among.aids }
+    requires inside { (among.parent < among.used)
         × (among.used + 2 < 2 ^ 32) }
     ensures { Appends words.old text.now among value words.new result }
 {

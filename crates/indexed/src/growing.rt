@@ -49,8 +49,8 @@ pub fn start(words: &mut [u32]) -> u32
 
 // Has the aids know the record that follows those used, a child of a Map, after its key was looked for.
 fn note_child(words: &mut [u32], text: &[u8], among: Among)
-    requires fact_1 { (among.aids ≢ no_aids → free_from among.aids ≤ length words.old) }
-    requires fact_2 { (among.used < record_count words.old) × InText text.now (key_words_at words.old among.used) }
+    requires room { (among.aids ≢ no_aids → free_from among.aids ≤ length words.old) }
+    requires inside { (among.used < record_count words.old) × InText text.now (key_words_at words.old among.used) }
     ensures { Noted words.old among words.new }
 {
     if among.aids != aids::NO_AIDS {
@@ -75,8 +75,8 @@ fn note_last(words: &mut [u32], among: Among)
 
 // The same for the two children of a new sequence.
 pub(crate) fn note_two(words: &mut [u32], among: Among)
-    requires fact_1 { (among.aids ≢ no_aids → free_from among.aids ≤ length words.old) }
-    requires fact_2 { among.used + 2 < 2 ^ 32 }
+    requires room { (among.aids ≢ no_aids → free_from among.aids ≤ length words.old) }
+    requires countable { among.used + 2 < 2 ^ 32 }
     ensures { NotedTwo words.old among words.new }
 {
     if among.aids != aids::NO_AIDS {
@@ -88,9 +88,9 @@ pub(crate) fn note_two(words: &mut [u32], among: Among)
 
 // Puts in a child of a Map, in a gap among its children, after its key was looked for.
 pub fn insert_child(words: &mut [u32], text: &[u8], among: Among, gap: Walk, new: Record)
-    requires fact_1 { HoldsSome words.old text.now among.used × Aided words.old among.used among.aids
+    requires held { HoldsSome words.old text.now among.used × Aided words.old among.used among.aids
         × Gap words.old among.parent gap.prev gap.cur }
-    requires fact_2 { (among.parent < among.used)
+    requires inside { (among.parent < among.used)
         × (among.used < record_count words.old) × (among.used + 2 < 2 ^ 32) × InText text.now new.key }
     ensures { Grown (inserted words.old among.used among.parent gap.prev gap.cur new)
         among.aids (among.used + 1) words.new }
@@ -101,8 +101,8 @@ pub fn insert_child(words: &mut [u32], text: &[u8], among: Among, gap: Walk, new
 
 // Puts in a last child, without a key.
 pub(crate) fn insert_last(words: &mut [u32], among: Among, new: Record)
-    requires fact_1 { Growable words.old among }
-    requires fact_2 { (among.used < record_count words.old)
+    requires growable { Growable words.old among }
+    requires inside { (among.used < record_count words.old)
         × ((text : List ℕ) → InText text new.key) }
     ensures { Grown (inserted words.old among.used among.parent
         (last_of 0 (children words.old among.parent)) 0 new)

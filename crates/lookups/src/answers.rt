@@ -57,10 +57,10 @@ pub fn answer_names(
     duplicates: DuplicateKeyBehavior,
     answers: &mut [u32],
 )
-    requires fact_1 { Readable words.now text.now }
-    requires fact_2 { 0 < record_count words.now }
-    requires fact_3 { ends_fit 0 (length names.now) ends.now ≡ true }
-    requires fact_4 { length ends.now * answer_width ≤ length answers.old }
+    requires readable { Readable words.now text.now }
+    requires inside { 0 < record_count words.now }
+    requires ends { ends_fit 0 (length names.now) ends.now ≡ true }
+    requires room { length ends.now * answer_width ≤ length answers.old }
     ensures { answers.new ≡ over
         (answers_of (λ name. field_text_at duplicates words.now text.now
         (field_at words.now text.now name)) (names_in names.now ends.now))

@@ -64,8 +64,8 @@ pub fn append_value(
     kind: LeafKind,
     value: &[u8],
 ) -> Performed
-    requires fact_1 { SomeStoredAt words.old text.old here }
-    requires fact_2 { Countable here 2 (length value.now) }
+    requires stored { SomeStoredAt words.old text.old here }
+    requires countable { Countable here 2 (length value.now) }
     ensures performs { Performs words.old text.old words.new text.new
         here (appends (leaf_of kind value.now)) stays result }
     ensures adds { AddsAtMost here (length value.now) result }

@@ -65,8 +65,8 @@ fn find_key(
     raw: &[u8],
     laid: Decoded,
 ) -> Position
-    requires fact_1 { MapReady words.old text.now here }
-    requires fact_2 { LiesBehind text.now here.bytes (key_text (meant_key key raw.now)) laid }
+    requires ready { MapReady words.old text.now here }
+    requires laid { LiesBehind text.now here.bytes (key_text (meant_key key raw.now)) laid }
     ensures position { result ≡ position words.old text.now (meant_key key raw.now)
         here.node }
     ensures kept { Kept (free_from here.aids) words.old words.new }
@@ -114,8 +114,8 @@ fn enter_new(
     key: KeyKind,
     laid: Decoded,
 ) -> Performed
-    requires fact_1 { MapReady words.old text.now here × Gap words.old here.node gap.prev gap.cur }
-    requires fact_2 { Countable here 2 (length_of laid) × (here.bytes + length_of laid ≤ length text.now) }
+    requires ready { MapReady words.old text.now here × Gap words.old here.node gap.prev gap.cur }
+    requires countable { Countable here 2 (length_of laid) × (here.bytes + length_of laid ≤ length text.now) }
     ensures { Entered words.old here gap key words.new laid result }
 {
     if row::has_room(words, here.records + 1) {
@@ -146,8 +146,8 @@ fn enter_new(
 // decoded once, into the free text, and found by what is shown of it there. A key that has a child already needs no
 // space, and is found however little text is left. After a refusal what the words and the text hold is free.
 pub fn enter(words: &mut [u32], text: &mut [u8], here: Here, key: KeyKind, raw: &[u8]) -> Performed
-    requires fact_1 { SomeStoredAt words.old text.old here }
-    requires fact_2 { Countable here 2 (length raw.now) }
+    requires stored { SomeStoredAt words.old text.old here }
+    requires countable { Countable here 2 (length raw.now) }
     ensures performs { Performs words.old text.old words.new text.new
         here (enters (meant_key key raw.now)) (further (meant_key key raw.now)) result }
     ensures adds { AddsAtMost here (length raw.now) result }

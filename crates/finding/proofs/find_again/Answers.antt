@@ -12,22 +12,22 @@ pub has_key-requires : goal.has_key-requires
 has_key-requires c = (
   omega (
     arith,
-    child-used (ready-linked c.requires.fact_1)
-        c.requires.fact_2.0 (c.is_child.ensures c.if-is_child.true),
+    child-used (ready-linked c.requires.ready)
+        c.requires.inside.0 (c.is_child.ensures c.if-is_child.true),
     (ready-linked
-        c.requires.fact_1).room,
+        c.requires.ready).room,
   ),
   (ready-formed
-      c.requires.fact_1).keys _
-      (child-used (ready-linked c.requires.fact_1)
-      c.requires.fact_2.0 (c.is_child.ensures c.if-is_child.true)),
+      c.requires.ready).keys _
+      (child-used (ready-linked c.requires.ready)
+      c.requires.inside.0 (c.is_child.ensures c.if-is_child.true)),
 )
 
 pub returns-then-has_key : goal.returns-then-has_key
 returns-then-has_key c =
-    λ _. found-again c.requires.fact_1
-    c.requires.fact_2.0
-    c.requires.fact_2.1
+    λ _. found-again c.requires.ready
+    c.requires.inside.0
+    c.requires.inside.1
     (c.is_child.ensures c.if-is_child.true) _ (c.has_key.ensures c.if-has_key.true)
 
 pub returns-else-has_key : goal.returns-else-has_key

@@ -6,13 +6,13 @@ use Rattle.finding.proofs.find_by_fingers.Goals as goal
 
 pub walk_from-walk-requires : goal.walk_from-walk-requires
 walk_from-walk-requires c =
-    record { fact_1 = asked-kept c.requires.fact_1 c.propose-child.ensures; fact_2 = c.requires.fact_2 }
+    record { asked = asked-kept c.requires.asked c.propose-child.ensures; aided = c.requires.aided }
 
 pub returns-in-At : goal.returns-in-At
 returns-in-At c =
     record { position = tell _ _ _ c.walk_some.ensures c.in-At.is ∙ c.walk_from-walk.ensures.so_far ∙ asked-position
-          c.requires.fact_1 c.propose-child.ensures _; kept = c.propose-child.ensures }
+          c.requires.asked c.propose-child.ensures _; kept = c.propose-child.ensures }
 
 pub returns-in-Further : goal.returns-in-Further
 returns-in-Further c =
-    record { position = c.walk_all-position.ensures ∙ c.walk_from-walk.ensures.so_far ∙ asked-position c.requires.fact_1 c.propose-child.ensures _; kept = kept_trans c.propose-child.ensures c.walk_far.ensures }
+    record { position = c.walk_all-position.ensures ∙ c.walk_from-walk.ensures.so_far ∙ asked-position c.requires.asked c.propose-child.ensures _; kept = kept_trans c.propose-child.ensures c.walk_far.ensures }

@@ -6,19 +6,19 @@ use Rattle.finding.proofs.find_far.Goals as goal
 
 pub try_first-requires : goal.try_first-requires
 try_first-requires c =
-    asked-kept c.requires.fact_1 c.look_near.ensures
+    asked-kept c.requires.asked c.look_near.ensures
 
 pub find_by_fingers-position-requires : goal.find_by_fingers-position-requires
 find_by_fingers-position-requires c =
-    record { fact_1 = asked-kept c.requires.fact_1 c.look_near.ensures; fact_2 = c.requires.fact_2 }
+    record { asked = asked-kept c.requires.asked c.look_near.ensures; aided = c.requires.aided }
 
 pub returns-in-At : goal.returns-in-At
 returns-in-At c =
     record { position = c.settle.ensures.position ∙ tell _ _ _ c.try_first.ensures c.in-At.is ∙ asked-position
-          c.requires.fact_1 c.look_near.ensures _; kept = kept_trans c.look_near.ensures c.settle.ensures.kept }
+          c.requires.asked c.look_near.ensures _; kept = kept_trans c.look_near.ensures c.settle.ensures.kept }
 
 pub returns-in-Further : goal.returns-in-Further
 returns-in-Further c =
-    record { position = c.settle-in-Further.ensures.position ∙ c.find_by_fingers-position.ensures.position ∙ asked-position c.requires.fact_1
+    record { position = c.settle-in-Further.ensures.position ∙ c.find_by_fingers-position.ensures.position ∙ asked-position c.requires.asked
           c.look_near.ensures _; kept = kept_trans c.look_near.ensures
           (kept_trans c.find_by_fingers-position.ensures.kept c.settle-in-Further.ensures.kept) }

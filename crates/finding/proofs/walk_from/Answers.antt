@@ -5,19 +5,19 @@ use Rattle.finding.proofs.walk_from.Goals as goal
 
 pub compare_tagged-requires : goal.compare_tagged-requires
 compare_tagged-requires c =
-    (asked-child c.requires.fact_1 (c.is_child.ensures c.if-is_child.true), asked-key c.requires.fact_1 (c.is_child.ensures c.if-is_child.true))
+    (asked-child c.requires.asked (c.is_child.ensures c.if-is_child.true), asked-key c.requires.asked (c.is_child.ensures c.if-is_child.true))
 
 pub get_word-next-requires : goal.get_word-next-requires
 get_word-next-requires c =
-    (asked-child c.requires.fact_1 (c.is_child.ensures c.if-is_child.true), omega arith)
+    (asked-child c.requires.asked (c.is_child.ensures c.if-is_child.true), omega arith)
 
 pub returns-in-Less : goal.returns-in-Less
 returns-in-Less c =
     rw c.get_word-next.ensures
-    (asked_less c.requires.fact_1 (c.is_child.ensures c.if-is_child.true) _ c.compare_tagged.ensures
+    (asked_less c.requires.asked (c.is_child.ensures c.if-is_child.true) _ c.compare_tagged.ensures
     c.in-Less.is)
 
 pub returns-in-Equal : goal.returns-in-Equal
 returns-in-Equal c =
-    asked-equal c.requires.fact_1 (c.is_child.ensures c.if-is_child.true) _ c.compare_tagged.ensures
+    asked-equal c.requires.asked (c.is_child.ensures c.if-is_child.true) _ c.compare_tagged.ensures
     c.in-Equal.is

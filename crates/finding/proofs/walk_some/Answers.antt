@@ -4,7 +4,7 @@ use Rattle.records.proofs.Chains.{walking_record, walking_key, walking_falls, wa
 use Rattle.finding.proofs.walk_some.Goals as goal
 
 pub loop-cur-init : goal.loop-cur-init
-loop-cur-init c = record { among = c.requires.fact_1; so_far = refl }
+loop-cur-init c = record { among = c.requires.well_formed; so_far = refl }
 
 pub returns-then-left-eq0 : goal.returns-then-left-eq0
 returns-then-left-eq0 c = tt
@@ -24,17 +24,17 @@ loop-cur-smaller c =
 pub loop-cur-preserved : goal.loop-cur-preserved
 loop-cur-preserved c =
     rw c.get_word-cur.ensures
-    (walking_on c.loop-cur.invariant c.loop-cur-test.true (c.compare_tagged.ensures _ c.requires.fact_2)
+    (walking_on c.loop-cur.invariant c.loop-cur-test.true (c.compare_tagged.ensures _ c.requires.sought)
     c.in-Less.is)
 
 pub returns-in-Equal : goal.returns-in-Equal
 returns-in-Equal c =
-    walking_found c.loop-cur.invariant c.loop-cur-test.true (c.compare_tagged.ensures _ c.requires.fact_2)
+    walking_found c.loop-cur.invariant c.loop-cur-test.true (c.compare_tagged.ensures _ c.requires.sought)
     c.in-Equal.is
 
 pub returns-in-Greater : goal.returns-in-Greater
 returns-in-Greater c =
-    walking_past c.loop-cur.invariant c.loop-cur-test.true (c.compare_tagged.ensures _ c.requires.fact_2)
+    walking_past c.loop-cur.invariant c.loop-cur-test.true (c.compare_tagged.ensures _ c.requires.sought)
     c.in-Greater.is
 
 pub returns : goal.returns

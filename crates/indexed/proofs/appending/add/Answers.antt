@@ -1,0 +1,21 @@
+-- At a Map by `append`, else at the record.
+use mathlib.Core.Path.{◌∙◌}
+use Rattle.indexed.proofs.Added.{append_other}
+use Rattle.indexed.proofs.appending.add.Goals as goal
+
+pub append-requires : goal.append-requires
+append-requires c =
+    rw c.among_of-at.ensures (c.requires.ready, (c.requires.inside.0, c.requires.inside.1))
+
+pub returns-then-get_word-eq-MAP : goal.returns-then-get_word-eq-MAP
+returns-then-get_word-eq-MAP c =
+    rw (c.among_of-at.ensures, c.value_of.ensures) at
+    c.append.ensures
+
+pub returns-else-get_word-eq-MAP : goal.returns-else-get_word-eq-MAP
+returns-else-get_word-eq-MAP c =
+    append_other c.requires.ready
+    c.requires.inside.0
+    c.args.value
+    (λ e. c.if-get_word-eq-MAP.false (c.get_word.ensures ∙ e))
+    c.append_here.ensures
