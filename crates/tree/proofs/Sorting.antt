@@ -91,9 +91,12 @@ module _ (text t zs : List ℕ) (full : text ≡ t ++ zs) where
   map_rises (sequence cs) h k e = absurd (omega arith)
 
   single_rises : (v : Value) → SingleValue v → (kind v ≡ map_kind → KeysRise text (below v)) × MapsRise text (below v)
+  single_rises uninitialized s = elim s [ ]
   single_rises null s = (λ e. tt, tt)
   single_rises no_value s = (λ e. tt, tt)
   single_rises (string o x) s = (λ e. tt, tt)
+  single_rises (map _) s = elim s [ ]
+  single_rises (sequence _) s = elim s [ ]
 
   elements_rise : (cs : Forest) → ShapedSequence cs → MapsRise text (nodes cs)
   elements_rise none k = tt

@@ -1,0 +1,63 @@
+-- By what adding answers: the ways of AppendWays, in words that are ready where a tree stands.
+use native.Mathlib.Omega.{arith}
+use mathlib.Core.Path.{ap, ◌∙◌}
+use Prim.Native.Nat.{ℕ}
+use Rattle.reading.specs.Leaves.{leaf_of}
+use Rattle.reading.specs.Adding.{leaf_text}
+use Rattle.tree.specs.NewValues.{new_value_words}
+use Rattle.tree.proofs.StoredTrees.{stand_used, stand_end}
+use Rattle.tree.proofs.Leaves.{ready-stored}
+use Rattle.tree.proofs.Bounds.{leaf_laid_len, append_modest}
+use Rattle.tree.proofs.AppendWays.{append-enough, append_too_few}
+use Rattle.tree.proofs.EnterWays.{laid-standing}
+use borrow.Author.Rules.{rules}
+use Rattle.tree.proofs.adding.append_value.Goals as goal
+
+pub lay_value-laid-requires : goal.lay_value-laid-requires
+lay_value-laid-requires c = stand_end c.requires.stored
+
+pub overflow_cast-answered_len : goal.overflow_cast-answered_len
+overflow_cast-answered_len c =
+    omega (
+      arith,
+      c.answered_len.ensures,
+      leaf_laid_len c.args.text.now c.args.here.bytes c.args.kind
+          c.args.value.now c.lay_value-laid.result c.lay_value-laid.ensures.answer,
+      c.requires.countable.1,
+    )
+
+pub add-requires : goal.add-requires
+add-requires c =
+    record { ready = ready-stored (laid-standing (leaf_text (leaf_of c.args.kind c.args.value.now)) c.lay_value-laid.ensures.output
+          c.requires.stored).stored; inside = (stand_used c.requires.stored, c.requires.countable.0) }
+
+pub answer-requires : goal.answer-requires
+answer-requires c =
+    omega (
+      arith,
+      leaf_laid_len c.args.text.now c.args.here.bytes c.args.kind c.args.value.now
+          c.lay_value-laid.result c.lay_value-laid.ensures.answer,
+      c.requires.countable.1,
+    )
+
+pub returns-in-Used : goal.returns-in-Used
+returns-in-Used c =
+    let does = append-enough c.args.words.now
+    c.args.text.now c.args.here
+    c.args.kind c.args.value.now
+    c.value_words-new.result
+    c.lay_value-laid.ensures.answer
+    c.lay_value-laid.ensures.output
+    c.add.ensures
+    (c.value_words-new.ensures ∙ ap
+    (λ (n : ℕ). new_value_words c.args.kind
+    c.args.here.bytes n) c.answered_len.ensures) c.in-Used.is (search rules) in rw c.answer.ensures (record { performs = does; adds = append_modest
+          c.requires.stored c.args.kind
+          c.args.value.now does })
+
+pub returns-in-TooFew : goal.returns-in-TooFew
+returns-in-TooFew c =
+    record { performs = append_too_few c.args.words.now c.args.text.now c.args.here c.args.kind c.args.value.now
+          c.value_words-new.result c.lay_value-laid.ensures.answer c.lay_value-laid.ensures.output c.add.ensures
+          (c.value_words-new.ensures ∙ ap (λ (n : ℕ). new_value_words c.args.kind c.args.here.bytes n)
+          c.answered_len.ensures) c.in-TooFew.is; adds = tt }
