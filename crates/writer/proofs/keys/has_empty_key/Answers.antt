@@ -10,4 +10,5 @@ returns-then-kind-eq-INT_KEY c =
 pub returns : goal.returns
 returns c =
     let s = c.args in
-    string_empty s.words.now s.text.now s.n c.word_or_zero-kind.ensures c.word_or_zero-key.ensures c.if-kind-eq-INT_KEY.false c.word_or_zero-len.ensures c.text_part.ensures
+    string_empty s.words.now s.text.now s.n c.word_or_zero-kind.ensures c.word_or_zero-key.ensures
+    c.if-kind-eq-INT_KEY.false c.word_or_zero-len.ensures c.text_part.ensures

@@ -11,9 +11,11 @@ returns-then-keyed-eq1 c =
 pub returns-then-is_at_depth : goal.returns-then-is_at_depth
 returns-then-is_at_depth c =
     let s = c.args in
-    part_at_depth s.config s.keyed.level (key_of_record s.words.now s.text.now s.keyed.n) c.if-keyed-eq1.false c.is_at_depth.ensures c.if-is_at_depth.true c.write_key_at_depth.ensures
+    part_at_depth s.config s.keyed.level (key_of_record s.words.now s.text.now s.keyed.n) c.if-keyed-eq1.false c.is_at_depth.ensures
+    c.if-is_at_depth.true c.write_key_at_depth.ensures
 
 pub returns : goal.returns
 returns c =
     let s = c.args in
-    part_bracketed s.config s.keyed.level (key_of_record s.words.now s.text.now s.keyed.n) c.if-keyed-eq1.false c.is_at_depth.ensures c.if-is_at_depth.false c.put-inner.ensures c.write_key-end.ensures c.put.ensures
+    part_bracketed s.config s.keyed.level (key_of_record s.words.now s.text.now s.keyed.n) c.if-keyed-eq1.false c.is_at_depth.ensures
+    c.if-is_at_depth.false c.put-inner.ensures c.write_key-end.ensures c.put.ensures
