@@ -42,7 +42,7 @@ fn write_own(
 }
 
 // Writes a value: what it shows itself, then its map, or its sequence.
-#[cycle(write_map_write_value)]
+#[cycle(values)]
 fn write_value(
     style: Style,
     words: &[u32],
@@ -73,7 +73,7 @@ fn write_value(
 }
 
 // Writes a map: each value from the first on. A sequence's are the same without keys.
-#[cycle(write_map_write_value)]
+#[cycle(values)]
 fn write_map(
     style: Style,
     words: &[u32],

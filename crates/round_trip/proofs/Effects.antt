@@ -1,6 +1,5 @@
 -- A tree as what its pairs do, one after the other: carried out on an undecided value they make that tree again.
 use Prim.Native.Nat.{Ordering}
-use Prim.Native.Nat.{◌+◌}
 use mathlib.Core.Path.{◌≡◌, refl, sym, ◌∙◌, ap}
 use mathlib.Core.Bool.{Bool, true, false}
 use mathlib.Core.Option.{Option, some}
@@ -11,7 +10,7 @@ use Rattle.key.specs.KeyOrder.{compare_keys}
 use Rattle.reading.specs.Leaves.{Leaf}
 use Rattle.reading.specs.Trees.{Tree, uninitialized, null, no_value, string, map, sequence, Entries, no_entries, entry}
 use Rattle.reading.specs.Trees.{Elements, no_elements, element}
-use Rattle.meaning.specs.Rules.{bind, Rule, single, at_entry, in_map, adding, pushing, along}
+use Rattle.meaning.specs.Rules.{bind, Rule, at_entry, in_map, adding, pushing, along}
 use Rattle.meaning.proofs.Along.{bind-some, bind-bind, bind-same, at-entry_then, in_map_then, in_map-same, append-at-entry}
 use Rattle.round_trip.specs.Writable.{Spot, spot_under}
 

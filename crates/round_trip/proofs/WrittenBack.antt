@@ -20,7 +20,6 @@ use Rattle.meaning.proofs.Along.{bind-same}
 use Rattle.ser.specs.Escaping.{escaped_key, escaped_at_depth}
 use Rattle.ser.specs.Writing.{at_root, is_at_depth, key_at, pairs, joined, written}
 use Rattle.ser.proofs.Reading.{Chunks, chunks_join, escaped_chunks, key_chunks, chunks_tokens, key-some}
-use Rattle.ser.proofs.Reading
 use Rattle.round_trip.specs.Writable.{Spot, root_spot, spot_under, KeyFits, ElementFits, ElementsFit, maps_at, Fits, EntriesFit, Writable}
 use Rattle.round_trip.proofs.KeptFit.{Named, KeyStands, PathFits}
 use Rattle.round_trip.proofs.Effects

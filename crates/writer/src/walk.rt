@@ -246,7 +246,7 @@ fn inner_place(kind: u32, place: Place, out: &mut [u8]) -> Place
 
 // Writes the pairs of a value, of which there are some, behind what is written so far. Its key stands at the end.
 // (Nothing below the root is Uninitialized, so that kind may be taken for a Map's.)
-#[cycle(write_children_write_empty_write_inner_write_value)]
+#[cycle(children)]
 pub(crate) fn write_value(
     config: Config,
     words: &[u32],
@@ -271,7 +271,7 @@ pub(crate) fn write_value(
 
 // Writes the pairs of a Map or a Sequence behind what is written so far: those of its children, but of a Map those of
 // the empty key last. Few Maps have it, and the children of the others are walked only once.
-#[cycle(write_children_write_empty_write_inner_write_value)]
+#[cycle(children)]
 fn write_inner(
     config: Config,
     words: &[u32],
@@ -303,7 +303,7 @@ fn write_inner(
 // named ones, or elements, in as many steps. Tells whether one was skipped, which is one under the empty key.
 // The next sibling is read last, in both arms: a child's number alone is kept while its value is written. The arms are
 // no function of their own: the structs that it would take and answer cost more than the rest of the turn.
-#[cycle(write_children_write_empty_write_inner_write_value)]
+#[cycle(children)]
 fn write_children(
     config: Config,
     words: &[u32],
@@ -346,7 +346,7 @@ fn write_children(
 
 // Writes the pairs of a Map's children under the empty key, from the first child on along its siblings, behind those of
 // the others. `first` has the place of the Map.
-#[cycle(write_children_write_empty_write_inner_write_value)]
+#[cycle(children)]
 fn write_empty(
     config: Config,
     words: &[u32],
