@@ -15,7 +15,7 @@ pub clear_unused-requires : goal.clear_unused-requires
 clear_unused-requires c =
     used-inside c.args.config c.args.input.now c.args.words.now c.args.text.now c.requires.1 c.requires.2
     c.begin-aids.ensures c.requires.0 _ _
-    c.parse_pairs.auto.1.1.0 c.parse_pairs.auto.1.1.1.0 c.parse_pairs.ensures
+    c.parse_pairs.auto.words c.parse_pairs.auto.text c.parse_pairs.ensures
     c.in-Going.is
 
 pub overflow_cast-at : goal.overflow_cast-at
@@ -24,7 +24,7 @@ overflow_cast-at c =
       arith,
       place_inside c.args.config c.args.input.now c.args.words.now c.args.text.now c.requires.1 c.requires.2
           c.begin-aids.ensures c.requires.0 _ _
-          c.parse_pairs.auto.1.1.0 c.parse_pairs.auto.1.1.1.0 c.parse_pairs.ensures
+          c.parse_pairs.auto.words c.parse_pairs.auto.text c.parse_pairs.ensures
           c.in-Refused.is,
     )
 
@@ -32,13 +32,13 @@ pub returns-in-Going : goal.returns-in-Going
 returns-in-Going c =
     some-accepted c.args.config c.args.input.now c.args.words.now c.args.text.now c.requires.1 c.requires.2
     c.begin-aids.ensures c.requires.0 _ _
-    c.parse_pairs.auto.1.1.0 c.parse_pairs.auto.1.1.1.0 c.parse_pairs.ensures
+    c.parse_pairs.auto.words c.parse_pairs.auto.text c.parse_pairs.ensures
     c.in-Going.is c.clear_unused.ensures
 
 pub returns-in-Refused : goal.returns-in-Refused
 returns-in-Refused c =
     some-refused c.args.config c.args.input.now c.args.words.now c.args.text.now c.requires.1 c.requires.2
     c.begin-aids.ensures c.requires.0 _ _
-    c.parse_pairs.auto.1.1.0 c.parse_pairs.auto.1.1.1.0 c.parse_pairs.ensures
+    c.parse_pairs.auto.words c.parse_pairs.auto.text c.parse_pairs.ensures
     c.in-Refused.is c.clear_words.ensures
     c.clear_text.ensures
