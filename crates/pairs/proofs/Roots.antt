@@ -13,7 +13,7 @@ use Rattle.config.specs.declared.Config.{Config}
 use Rattle.key.specs.Keys.{Key}
 use Rattle.key.specs.Collected.{collected, key_in}
 use Rattle.refusals.specs.declared.Refusal.{Refusal}
-use Rattle.reading.specs.Scanning.{Target, root, root_key, finish, Step, skip, ◌then◌}
+use Rattle.reading.specs.Scanning.{Target, root_key, finish, Step, skip, ◌then◌}
 use Rattle.reading.specs.Running.{Answer, refused_at}
 use Rattle.cursor.specs.declared.taking.Cursor.{Cursor}
 use Rattle.cursor.specs.declared.collecting.CollectedKey.{CollectedKey}

@@ -1,4 +1,3 @@
-use Prim.Native.Nat.{◌-◌}
 use Rattle.decode.proofs.Loops.{counting_start, counting_more, counting_done}
 use Rattle.decode.proofs.decoded_len.Goals as goal
 

@@ -1,4 +1,3 @@
-use Prim.Native.Nat.{◌-◌}
 use Rattle.decode.proofs.Plain.{looking_start, looking_done, looking_plus, looking_percent, looking_more}
 use Rattle.decode.proofs.is_plain.Goals as goal
 

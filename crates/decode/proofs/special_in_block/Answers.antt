@@ -1,4 +1,3 @@
-use Prim.Native.Nat.{◌-◌}
 use native.Mathlib.Omega.{arith}
 use Rattle.decode.proofs.Plain.{spotting_start, spotting_more, spotting_done}
 use Rattle.decode.proofs.special_in_block.Goals as goal

@@ -10,8 +10,11 @@ walk_from-walk-requires c =
 
 pub returns-in-At : goal.returns-in-At
 returns-in-At c =
-    record { position = tell _ _ _ c.walk_some.ensures c.in-At.is ∙ c.walk_from-walk.ensures.so_far ∙ asked-position
-          c.requires.asked c.propose-child.ensures _; kept = c.propose-child.ensures }
+    record {
+      position = tell _ _ _ c.walk_some.ensures c.in-At.is ∙ c.walk_from-walk.ensures.so_far ∙ asked-position
+          c.requires.asked c.propose-child.ensures _;
+      kept = c.propose-child.ensures;
+    }
 
 pub returns-in-Further : goal.returns-in-Further
 returns-in-Further c =

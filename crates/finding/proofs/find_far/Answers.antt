@@ -14,11 +14,17 @@ find_by_fingers-position-requires c =
 
 pub returns-in-At : goal.returns-in-At
 returns-in-At c =
-    record { position = c.settle.ensures.position ∙ tell _ _ _ c.try_first.ensures c.in-At.is ∙ asked-position
-          c.requires.asked c.look_near.ensures _; kept = kept_trans c.look_near.ensures c.settle.ensures.kept }
+    record {
+      position = c.settle.ensures.position ∙ tell _ _ _ c.try_first.ensures c.in-At.is ∙ asked-position
+          c.requires.asked c.look_near.ensures _;
+      kept = kept_trans c.look_near.ensures c.settle.ensures.kept;
+    }
 
 pub returns-in-Further : goal.returns-in-Further
 returns-in-Further c =
-    record { position = c.settle-in-Further.ensures.position ∙ c.find_by_fingers-position.ensures.position ∙ asked-position c.requires.asked
-          c.look_near.ensures _; kept = kept_trans c.look_near.ensures
-          (kept_trans c.find_by_fingers-position.ensures.kept c.settle-in-Further.ensures.kept) }
+    record {
+      position = c.settle-in-Further.ensures.position ∙ c.find_by_fingers-position.ensures.position ∙ asked-position c.requires.asked
+          c.look_near.ensures _;
+      kept = kept_trans c.look_near.ensures
+          (kept_trans c.find_by_fingers-position.ensures.kept c.settle-in-Further.ensures.kept);
+    }

@@ -1,5 +1,4 @@
 use mathlib.Core.Path.{refl, sym, ◌∙◌}
-use Prim.Native.Nat.{◌-◌}
 use Rattle.head.proofs.Heads.{begins_short, begins_other, begins-more, begins-done}
 use Rattle.head.proofs.begins.Goals as goal
 

@@ -1,5 +1,4 @@
 use native.Mathlib.Omega.{arith}
-use Prim.Native.Nat.{◌-◌}
 use Rattle.key.proofs.Digits.{summed_none, summed_more, digit_here, longest-whole, longest_byte, longest-zero, longest-sum}
 use Rattle.key.proofs.leading_int.Goals as goal
 

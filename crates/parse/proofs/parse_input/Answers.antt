@@ -17,11 +17,10 @@ returns-then-is_too_long c =
     c.is_too_deep.ensures ∙ c.if-is_too_deep.false) (sym c.is_too_long.ensures ∙ c.if-is_too_long.true)
 
 pub parse_lent-requires : goal.parse_lent-requires
-parse_lent-requires c =
-    (
-      ltb-false max_len _ (sym c.is_too_long.ensures ∙ c.if-is_too_long.false),
-      omega (arith, has_records c.args.words.now c.has_room.ensures c.if-has_room.true),
-    )
+parse_lent-requires c = (
+  ltb-false max_len _ (sym c.is_too_long.ensures ∙ c.if-is_too_long.false),
+  omega (arith, has_records c.args.words.now c.has_room.ensures c.if-has_room.true),
+)
 
 pub returns-then-has_room : goal.returns-then-has_room
 returns-then-has_room c =

@@ -4,12 +4,11 @@ use Rattle.parse.proofs.Outcomes.{start-ready, used-inside, some-accepted, place
 use Rattle.parse.proofs.parse_some.Goals as goal
 
 pub parse_pairs-requires : goal.parse_pairs-requires
-parse_pairs-requires c =
-    (
-      start-ready c.args.config c.args.input.now c.args.words.now c.args.text.now c.requires.1 c.requires.2
-          c.begin-aids.ensures,
-      omega (arith, c.requires.1),
-    )
+parse_pairs-requires c = (
+  start-ready c.args.config c.args.input.now c.args.words.now c.args.text.now c.requires.1 c.requires.2
+      c.begin-aids.ensures,
+  omega (arith, c.requires.1),
+)
 
 pub clear_unused-requires : goal.clear_unused-requires
 clear_unused-requires c =

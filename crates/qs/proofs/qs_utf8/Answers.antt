@@ -11,10 +11,13 @@ returns-then-is_utf8 c =
 pub returns-else-is_utf8 : goal.returns-else-is_utf8
 returns-else-is_utf8 c =
     let tested = c.is_utf8.ensures in
-    let no = c.if-is_utf8.false in record { test = simp (sym tested.value ∙ no); grammar = record {
+    let no = c.if-is_utf8.false in record {
+      test = simp (sym tested.value ∙ no);
+      grammar = record {
         sound = λ e. let z : ◌≡◌ {A = ℕ} 0 1 = cc in absurd (omega arith);
         complete = λ u.
             let yes = tested.decides.complete u in
             let z : ◌≡◌ {A = ℕ} 0 1 = cc in
             absurd (omega arith);
-      } }
+      };
+    }

@@ -1,7 +1,6 @@
 use native.Mathlib.Omega.{arith}
 use mathlib.Core.Path.{refl, sym, ◌∙◌}
 use mathlib.Core.Bool.{true≢false}
-use Prim.Native.Nat.{◌-◌}
 use Rattle.key.proofs.KeyOrders.{compare_equal}
 use Rattle.tags.proofs.Aligned.{aligned_end, aligned_next}
 use Rattle.tags.proofs.same_bytes.Goals as goal

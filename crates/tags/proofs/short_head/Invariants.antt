@@ -1,5 +1,4 @@
 -- `h` is the head of the bytes from `i` on: a byte more in front moves the others back by one, and none is lost.
-use Prim.Native.Nat.{◌-◌}
 use Rattle.tags.proofs.Heads.{Heading}
 use Rattle.tags.proofs.short_head.Given as goal
 

@@ -1,4 +1,4 @@
-use Rattle.std.proofs.Common.{◌-◌, arith}
+use Rattle.std.proofs.Common.{arith}
 use Rattle.utf8.proofs.Decides.{decides}
 use Rattle.utf8.proofs.Loop.{running_start, running_more, running_done}
 use Rattle.utf8.proofs.is_utf8.Goals as goal

@@ -1,6 +1,5 @@
 use native.Mathlib.Omega.{arith}
 use Rattle.aids.proofs.Keeps.{kept_refl, kept_trans, kept_set}
-use Prim.Native.Nat.{◌-◌}
 use Rattle.aids.proofs.free.copy_free.Goals as goal
 
 pub loop-i-init : goal.loop-i-init

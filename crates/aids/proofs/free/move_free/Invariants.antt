@@ -1,5 +1,5 @@
 -- The words below the free ones stay with each store.
-use Prim.Native.Nat.{◌≤◌, ◌-◌}
+use Prim.Native.Nat.{◌≤◌}
 use Rattle.aids.specs.Kept.{free_from, Kept}
 use Rattle.aids.proofs.free.move_free.Given as goal
 

@@ -1,4 +1,3 @@
-use Prim.Native.Nat.{◌-◌}
 use Rattle.cursor.proofs.Ampersands.{looking_start, looking_more, looking_done}
 use Rattle.cursor.proofs.finding.block_holds.Goals as goal
 

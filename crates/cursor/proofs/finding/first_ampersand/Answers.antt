@@ -1,4 +1,3 @@
-use Prim.Native.Nat.{◌-◌}
 use native.Mathlib.Omega.{arith}
 use Rattle.cursor.proofs.Ampersands.{reaches_start, reaches_byte, ends_byte, ends_limit}
 use Rattle.cursor.proofs.finding.first_ampersand.Goals as goal

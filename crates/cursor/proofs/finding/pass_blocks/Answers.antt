@@ -1,4 +1,3 @@
-use Prim.Native.Nat.{◌-◌}
 use native.Mathlib.Omega.{arith}
 use Rattle.cursor.proofs.Ampersands.{reaches_start, reaches_more}
 use Rattle.cursor.proofs.finding.pass_blocks.Goals as goal

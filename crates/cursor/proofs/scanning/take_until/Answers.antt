@@ -1,4 +1,3 @@
-use Prim.Native.Nat.{◌-◌}
 use native.Mathlib.Omega.{arith}
 use Rattle.cursor.proofs.Takings.{next_bounds}
 use Rattle.cursor.proofs.Scans.{passing_start, passing_done, passing_more}

@@ -1,4 +1,3 @@
-use Prim.Native.Nat.{◌-◌}
 use Rattle.decode.proofs.Plain.{copying_start, copying_more, copying_done}
 use Rattle.decode.proofs.writing.copy.Goals as goal
 

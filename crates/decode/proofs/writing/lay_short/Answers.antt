@@ -1,6 +1,4 @@
-use Prim.Native.Nat.{◌-◌}
 use mathlib.Core.Path.{refl}
-use lib.ListN.{length}
 use native.Mathlib.Omega.{arith}
 use Rattle.decode.proofs.Steps.{unescaped}
 use Rattle.decode.proofs.Laying.{laid-start, laid-left, laid-room, laid_more, laid_then, laid_done}

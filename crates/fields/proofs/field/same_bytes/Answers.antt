@@ -1,4 +1,3 @@
-use Prim.Native.Nat.{◌-◌}
 use native.Mathlib.Omega.{arith}
 use Rattle.fields.proofs.Fields.{other_length, same_start, same_more, same_not, same-done}
 use Rattle.fields.proofs.field.same_bytes.Goals as goal

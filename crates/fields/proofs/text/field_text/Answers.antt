@@ -5,8 +5,11 @@ use Rattle.fields.proofs.text.field_text.Goals as goal
 
 pub read_text-requires : goal.read_text-requires
 read_text-requires c =
-    record { readable = c.requires.readable; inside = field_inside c.args.words.now c.args.text.now c.args.name.now _ c.requires.readable.formed.links
-          c.requires.inside (sym c.in-Record.is ∙ c.root_field.ensures) }
+    record {
+      readable = c.requires.readable;
+      inside = field_inside c.args.words.now c.args.text.now c.args.name.now _ c.requires.readable.formed.links
+          c.requires.inside (sym c.in-Record.is ∙ c.root_field.ensures);
+    }
 
 pub returns-in-Record : goal.returns-in-Record
 returns-in-Record c =

@@ -8,7 +8,7 @@ use Rattle.indexed.proofs.appending.+append.Goals as goal
 pub append-requires : goal.append-requires
 append-requires t c =
     let inside = child-inside c.requires.0 c.requires.1.0 (sym c.get_word.ensures ∙ c.if-get_word-eq-MAP.true)
-        c.find_empty.ensures.kept c.find_empty.ensures.position c.in-Found.is in
+    c.find_empty.ensures.kept c.find_empty.ensures.position c.in-Found.is in
     rw c.among_of.ensures (
       omega (arith, inside.0, inside.1, c.decreases),
       (ready-kept c.requires.0 c.find_empty.ensures.kept, (inside.1, c.requires.1.1)),
@@ -17,16 +17,16 @@ append-requires t c =
 pub add_child-requires : goal.add_child-requires
 add_child-requires t c =
     rw c.walk_at.ensures (
-      record {
-        ready = ready-kept c.requires.0 c.find_empty.ensures.kept;
-        inside = (
-          c.requires.1.0,
-          c.requires.1.1,
-          append_gap c.requires.0 c.requires.1.0
-              (sym c.get_word.ensures ∙ c.if-get_word-eq-MAP.true) c.find_empty.ensures.kept c.find_empty.ensures.position
-              c.in-Between.is,
-        );
-      }
+    record {
+      ready = ready-kept c.requires.0 c.find_empty.ensures.kept;
+      inside = (
+        c.requires.1.0,
+        c.requires.1.1,
+        append_gap c.requires.0 c.requires.1.0
+            (sym c.get_word.ensures ∙ c.if-get_word-eq-MAP.true) c.find_empty.ensures.kept c.find_empty.ensures.position
+            c.in-Between.is,
+      );
+    }
     )
 
 pub returns-in-Found : goal.returns-in-Found

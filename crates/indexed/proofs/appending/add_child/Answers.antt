@@ -6,12 +6,15 @@ use Rattle.indexed.proofs.appending.add_child.Goals as goal
 
 pub insert_child-requires : goal.insert_child-requires
 insert_child-requires c =
-    rw c.empty_keyed.ensures (record { held = (c.requires.ready.holds, c.requires.ready.aided, c.requires.inside.2); inside = (
+    rw c.empty_keyed.ensures (record {
+      held = (c.requires.ready.holds, c.requires.ready.aided, c.requires.inside.2);
+      inside = (
         c.requires.inside.0,
         omega (arith, room c.args.words.now _ c.has_room.ensures c.if-has_room.true),
         c.requires.inside.1,
         λ no-int. omega arith,
-      ) })
+      );
+    })
 
 pub returns-then-has_room : goal.returns-then-has_room
 unfolding child_added

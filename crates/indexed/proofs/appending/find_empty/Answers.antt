@@ -21,5 +21,8 @@ find_far-requires c =
 
 pub returns : goal.returns
 returns c =
-    record { position = c.find_far.ensures.position ∙ ap (λ (k : Key). position c.args.words.now c.args.text.now k
-          c.args.among.parent) empty_key_lem; kept = c.find_far.ensures.kept }
+    record {
+      position = c.find_far.ensures.position ∙ ap (λ (k : Key). position c.args.words.now c.args.text.now k
+          c.args.among.parent) empty_key_lem;
+      kept = c.find_far.ensures.kept;
+    }

@@ -7,21 +7,23 @@ use Rattle.indexed.proofs.Grows.{two_length, grown_two}
 use Rattle.indexed.proofs.appending.pair.Goals as goal
 
 pub make_sequence-requires : goal.make_sequence-requires
-make_sequence-requires c =
-    (
-      omega (arith, c.requires.growable.inside, (ready-linked c.requires.growable.ready).room),
-      omega
-          (arith, room c.args.words.now _ c.has_room.ensures c.if-has_room.true),
-      c.requires.growable.countable,
-    )
+make_sequence-requires c = (
+  omega (arith, c.requires.growable.inside, (ready-linked c.requires.growable.ready).room),
+  omega
+      (arith, room c.args.words.now _ c.has_room.ensures c.if-has_room.true),
+  c.requires.growable.countable,
+)
 
 pub note_two-requires : goal.note_two-requires
 note_two-requires c =
-    record { room = λ on. rw (
+    record {
+      room = λ on. rw (
         c.make_sequence.ensures,
         two_length c.args.words.now c.args.among.used
             c.args.among.parent c.args.value,
-      ) (c.requires.growable.ready.aided.room on); countable = c.requires.growable.countable }
+      ) (c.requires.growable.ready.aided.room on);
+      countable = c.requires.growable.countable;
+    }
 
 pub returns-then-has_room : goal.returns-then-has_room
 unfolding paired

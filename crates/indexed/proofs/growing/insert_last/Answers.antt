@@ -13,13 +13,12 @@ pub last_child-prev-requires : goal.last_child-prev-requires
 last_child-prev-requires c = (ready-linked c.requires.growable.ready, c.requires.growable.ready.aided, c.requires.growable.inside)
 
 pub insert-requires : goal.insert-requires
-insert-requires c =
-    (
-      c.requires.inside.0,
-      omega (arith, c.requires.growable.inside, (ready-linked c.requires.growable.ready).room),
-      rw c.last_child-prev.ensures
-          (omega (arith, last-inside (ready-linked c.requires.growable.ready) _ c.requires.growable.inside, (ready-linked c.requires.growable.ready).room)),
-    )
+insert-requires c = (
+  c.requires.inside.0,
+  omega (arith, c.requires.growable.inside, (ready-linked c.requires.growable.ready).room),
+  rw c.last_child-prev.ensures
+      (omega (arith, last-inside (ready-linked c.requires.growable.ready) _ c.requires.growable.inside, (ready-linked c.requires.growable.ready).room)),
+)
 
 pub note_last-requires : goal.note_last-requires
 note_last-requires c =

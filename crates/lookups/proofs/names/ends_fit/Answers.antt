@@ -1,4 +1,3 @@
-use Prim.Native.Nat.{◌-◌}
 use native.Mathlib.Omega.{arith}
 use Rattle.lookups.proofs.Ends.{fitting_start, falls, passes, fitting_more, fitting_done}
 use Rattle.lookups.proofs.names.ends_fit.Goals as goal

@@ -8,15 +8,21 @@ use Rattle.pairs.proofs.nested.enter_scanned.Goals as goal
 pub enter-requires : goal.enter-requires
 unfolding segment
 enter-requires c =
-    record { stored = c.requires.0.stored; countable = segment-counts c.args.scanned.here c.args.input.now c.args.scanned.segment.start c.args.scanned.segment.end
-          c.requires.1.started c.requires.1.ended (performable_counts c.requires.0) }
+    record {
+      stored = c.requires.0.stored;
+      countable = segment-counts c.args.scanned.here c.args.input.now c.args.scanned.segment.start c.args.scanned.segment.end
+          c.requires.1.started c.requires.1.ended (performable_counts c.requires.0);
+    }
 
 pub returns-then-start-end : goal.returns-then-start-end
 unfolding segment
 returns-then-start-end c =
-    record { performs = keyed-does c.args.input.now c.args.scanned (λ q. omega (arith, c.requires.1.unkeyed q, c.if-start-end.true))
-          c.enter.ensures.performs; adds = segment_modest c.args.scanned.here c.args.input.now c.args.scanned.segment.start c.args.scanned.segment.end
-          c.enter.result c.requires.1.started c.requires.1.ended c.enter.ensures.adds }
+    record {
+      performs = keyed-does c.args.input.now c.args.scanned (λ q. omega (arith, c.requires.1.unkeyed q, c.if-start-end.true))
+          c.enter.ensures.performs;
+      adds = segment_modest c.args.scanned.here c.args.input.now c.args.scanned.segment.start c.args.scanned.segment.end
+          c.enter.result c.requires.1.started c.requires.1.ended c.enter.ensures.adds;
+    }
 
 pub returns-then-scanned-eq0 : goal.returns-then-scanned-eq0
 returns-then-scanned-eq0 c =
@@ -28,5 +34,8 @@ expect_sequence-requires c =
 
 pub returns : goal.returns
 returns c =
-    record { performs = served_does c.args.input.now c.args.scanned (c.requires.1.keyed (omega (arith, c.requires.1.started, c.if-start-end.false)))
-          c.if-scanned-eq0.false (c.expect_sequence.ensures.performs c.args.text.now); adds = needed_modest c.args.scanned.here _ c.args.words.now c.expect_sequence.ensures.words.0 }
+    record {
+      performs = served_does c.args.input.now c.args.scanned (c.requires.1.keyed (omega (arith, c.requires.1.started, c.if-start-end.false)))
+          c.if-scanned-eq0.false (c.expect_sequence.ensures.performs c.args.text.now);
+      adds = needed_modest c.args.scanned.here _ c.args.words.now c.expect_sequence.ensures.words.0;
+    }

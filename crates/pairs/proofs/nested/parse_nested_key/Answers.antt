@@ -1,5 +1,4 @@
 use mathlib.Core.Path.{◌∙◌}
-use Prim.Native.Nat.{◌-◌}
 use native.Mathlib.Omega.{arith}
 use Rattle.pairs.proofs.Additions.{nesting_start, nesting_less, nesting_more, nesting_done}
 use borrow.Author.Rules.{rules}

@@ -15,15 +15,14 @@ enter_scanned-requires c =
     (performable c.requires.0, c.requires.1)
 
 pub parse_level-requires : goal.parse_level-requires
-parse_level-requires c =
-    (
-      moved
-          (scanned_opened c.requires.1 c.value_behind-value.ensures c.enter_scanned.ensures.performs (sym
-          c.is.ensures ∙ c.if-is.true) c.in-Made.is)
-          c.requires.0,
-      c.requires.1.taken,
-      (opening-inside c.requires.1 (sym c.is.ensures ∙ c.if-is.true), c.requires.1.shallow),
-    )
+parse_level-requires c = (
+  moved
+      (scanned_opened c.requires.1 c.value_behind-value.ensures c.enter_scanned.ensures.performs (sym
+      c.is.ensures ∙ c.if-is.true) c.in-Made.is)
+      c.requires.0,
+  c.requires.1.taken,
+  (opening-inside c.requires.1 (sym c.is.ensures ∙ c.if-is.true), c.requires.1.shallow),
+)
 
 pub returns-then-is : goal.returns-then-is
 returns-then-is c =

@@ -8,11 +8,10 @@ returns-then-is_nothing c =
     nothing_pair c.root_key-first.ensures c.is_nothing.ensures c.if-is_nothing.true
 
 pub parse_nested_key-requires : goal.parse_nested_key-requires
-parse_nested_key-requires c =
-    (
-      moved (first_move c.root_key-first.ensures c.is_nothing.ensures c.if-is_nothing.false) c.requires.0,
-      root-behind c.root_key-first.ensures,
-    )
+parse_nested_key-requires c = (
+  moved (first_move c.root_key-first.ensures c.is_nothing.ensures c.if-is_nothing.false) c.requires.0,
+  root-behind c.root_key-first.ensures,
+)
 
 pub returns : goal.returns
 returns c =

@@ -1,5 +1,4 @@
 use mathlib.Core.Path.{◌∙◌}
-use Prim.Native.Nat.{◌-◌}
 use native.Mathlib.Omega.{arith}
 use Rattle.pairs.proofs.Roots.{rooting_start, rooting_within, rooting_less, rooting_more, rooting_refused, rooting_inside, rooting_done}
 use borrow.Author.Rules.{rules}

@@ -1,4 +1,3 @@
-use Prim.Native.Nat.{◌-◌}
 use Rattle.records.proofs.Comparing.{comparing_start, bytes_left, none_left, raw-left, byte_less, byte_greater, byte_equal}
 use Rattle.records.proofs.keys.compare_escaped.Goals as goal
 

@@ -28,8 +28,11 @@ overflow_cast-answered_len c =
 
 pub add-requires : goal.add-requires
 add-requires c =
-    record { ready = ready-stored (laid-standing (leaf_text (leaf_of c.args.kind c.args.value.now)) c.lay_value-laid.ensures.output
-          c.requires.stored).stored; inside = (stand_used c.requires.stored, c.requires.countable.0) }
+    record {
+      ready = ready-stored (laid-standing (leaf_text (leaf_of c.args.kind c.args.value.now)) c.lay_value-laid.ensures.output
+          c.requires.stored).stored;
+      inside = (stand_used c.requires.stored, c.requires.countable.0);
+    }
 
 pub answer-requires : goal.answer-requires
 answer-requires c =
@@ -51,13 +54,19 @@ returns-in-Used c =
     c.add.ensures
     (c.value_words-new.ensures ∙ ap
     (λ (n : ℕ). new_value_words c.args.kind
-    c.args.here.bytes n) c.answered_len.ensures) c.in-Used.is (search rules) in rw c.answer.ensures (record { performs = does; adds = append_modest
+    c.args.here.bytes n) c.answered_len.ensures) c.in-Used.is (search rules) in rw c.answer.ensures (record {
+      performs = does;
+      adds = append_modest
           c.requires.stored c.args.kind
-          c.args.value.now does })
+          c.args.value.now does;
+    })
 
 pub returns-in-TooFew : goal.returns-in-TooFew
 returns-in-TooFew c =
-    record { performs = append_too_few c.args.words.now c.args.text.now c.args.here c.args.kind c.args.value.now
+    record {
+      performs = append_too_few c.args.words.now c.args.text.now c.args.here c.args.kind c.args.value.now
           c.value_words-new.result c.lay_value-laid.ensures.answer c.lay_value-laid.ensures.output c.add.ensures
           (c.value_words-new.ensures ∙ ap (λ (n : ℕ). new_value_words c.args.kind c.args.here.bytes n)
-          c.answered_len.ensures) c.in-TooFew.is; adds = tt }
+          c.answered_len.ensures) c.in-TooFew.is;
+      adds = tt;
+    }

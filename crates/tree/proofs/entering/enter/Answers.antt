@@ -24,8 +24,11 @@ find_key-requires c =
     let text = key_text (meant_key c.args.key c.args.raw.now) in
     let stands = laid-standing text c.lay_key-laid.ensures.output
     (map-stands c.requires.stored c.expect_map.ensures.words (c.expect_map.ensures.performs c.args.text.now)
-    c.in-Made.is) in record { ready = map-ready c.requires.stored c.expect_map.ensures.words c.in-Made.is stands; laid = laid-behind c.args.text.now c.args.here.bytes text (stand_end c.requires.stored) c.lay_key-laid.ensures.output
-          c.lay_key-laid.ensures.answer }
+    c.in-Made.is) in record {
+      ready = map-ready c.requires.stored c.expect_map.ensures.words c.in-Made.is stands;
+      laid = laid-behind c.args.text.now c.args.here.bytes text (stand_end c.requires.stored) c.lay_key-laid.ensures.output
+          c.lay_key-laid.ensures.answer;
+    }
 
 pub enter_new-requires : goal.enter_new-requires
 enter_new-requires c =
@@ -33,10 +36,12 @@ enter_new-requires c =
     let stands = laid-standing (key_text key) c.lay_key-laid.ensures.output
     (map-stands c.requires.stored c.expect_map.ensures.words (c.expect_map.ensures.performs c.args.text.now)
     c.in-Made.is) in
-    let ready = map-ready c.requires.stored c.expect_map.ensures.words c.in-Made.is stands in record { ready = (
+    let ready = map-ready c.requires.stored c.expect_map.ensures.words c.in-Made.is stands in record {
+      ready = (
         ready-found c.find_key.ensures.kept ready,
         gap_found c.find_key.ensures.kept ready key c.find_key.ensures.position c.in-Between.is,
-      ); countable = (
+      );
+      countable = (
         (
           c.requires.countable.0,
           omega (
@@ -48,7 +53,8 @@ enter_new-requires c =
         laid-inside (stand_end stands)
             (laid-behind c.args.text.now c.args.here.bytes (key_text key) (stand_end c.requires.stored) c.lay_key-laid.ensures.output
             c.lay_key-laid.ensures.answer),
-      ) }
+      );
+    }
 
 pub returns-in-Found : goal.returns-in-Found
 returns-in-Found c =
@@ -73,5 +79,8 @@ returns-in-Between c =
 
 pub returns-in-Refused : goal.returns-in-Refused
 returns-in-Refused c =
-    let key = meant_key c.args.key c.args.raw.now in record { performs = stops needs_map stays (c.expect_map.ensures.performs c.args.text.now) (λ env path. along path (enter_key env key)) (enters key)
-          (λ env. enter_composed env key) (further key) c.in-Refused.is; adds = tt }
+    let key = meant_key c.args.key c.args.raw.now in record {
+      performs = stops needs_map stays (c.expect_map.ensures.performs c.args.text.now) (λ env path. along path (enter_key env key)) (enters key)
+          (λ env. enter_composed env key) (further key) c.in-Refused.is;
+      adds = tt;
+    }

@@ -10,13 +10,16 @@ overflow_cast-len c =
 
 pub insert_child-requires : goal.insert_child-requires
 insert_child-requires c =
-    let ready = c.requires.ready.0 in record { held = (ready.ready.holds, ready.ready.aided, c.requires.ready.1); inside = (
+    let ready = c.requires.ready.0 in record {
+      held = (ready.ready.holds, ready.ready.aided, c.requires.ready.1);
+      inside = (
         ready.inside,
         omega (arith, room c.args.words.now _ c.has_room.ensures c.if-has_room.true),
         c.requires.countable.0.0,
         new_inside c.args.key c.args.text.now c.args.here.bytes c.requires.countable.1 c.in-Yes.is
             c.new_record-new.ensures,
-      ) }
+      );
+    }
 
 pub overflow_cast-result : goal.overflow_cast-result
 overflow_cast-result c =

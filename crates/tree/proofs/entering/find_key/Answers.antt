@@ -14,8 +14,11 @@ slice_bounds-find_again-end c =
 
 pub returns-then-again-ne0 : goal.returns-then-again-ne0
 returns-then-again-ne0 c =
-    record { position = again-laid c.args.words.now c.args.text.now c.args.here c.args.key c.args.raw.now c.requires.laid
-          c.in-Yes.is (c.find_again-again.ensures c.if-again-ne0.true); kept = kept_refl _ _ }
+    record {
+      position = again-laid c.args.words.now c.args.text.now c.args.here c.args.key c.args.raw.now c.requires.laid
+          c.in-Yes.is (c.find_again-again.ensures c.if-again-ne0.true);
+      kept = kept_refl _ _;
+    }
 
 pub tag_of-tag-requires : goal.tag_of-tag-requires
 tag_of-tag-requires c =
@@ -39,8 +42,11 @@ find-requires-in-No c = asked-raw c.requires.ready
 
 pub returns-else-again-ne0 : goal.returns-else-again-ne0
 returns-else-again-ne0 c =
-    record { position = found-laid c.requires.ready c.args.key c.args.raw.now (key_fits c.args.key c.well_formed.1.1.1.0) c.requires.laid
-          c.in-Yes.is c.tag_of-tag.ensures c.find.ensures.position; kept = c.find.ensures.kept }
+    record {
+      position = found-laid c.requires.ready c.args.key c.args.raw.now (key_fits c.args.key c.well_formed.1.1.1.0) c.requires.laid
+          c.in-Yes.is c.tag_of-tag.ensures c.find.ensures.position;
+      kept = c.find.ensures.kept;
+    }
 
 pub returns-in-No : goal.returns-in-No
 returns-in-No c =

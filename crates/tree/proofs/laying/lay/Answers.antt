@@ -8,7 +8,10 @@ use Rattle.tree.proofs.laying.lay.Goals as goal
 
 pub returns : goal.returns
 returns c =
-    let tail = mid_tail c.args.used c.args.text.now in record { answer = decode_answer c.args.text.now c.args.raw.now c.args.used c.requires c.decode.result
-          (rw tail at c.decode.ensures.answer); output = put_tail c.args.used c.args.text.now c.decode.new.out
+    let tail = mid_tail c.args.used c.args.text.now in record {
+      answer = decode_answer c.args.text.now c.args.raw.now c.args.used c.requires c.decode.result
+          (rw tail at c.decode.ensures.answer);
+      output = put_tail c.args.used c.args.text.now c.decode.new.out
           ∙ ap (λ l. take c.args.used c.args.text.now ++ l) (rw tail at c.decode.ensures.output)
-          ∙ decode_laid c.args.text.now c.args.raw.now c.args.used c.requires }
+          ∙ decode_laid c.args.text.now c.args.raw.now c.args.used c.requires;
+    }
