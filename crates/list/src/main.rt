@@ -3,18 +3,18 @@
 // (input), the head's reader (head), the reader of query strings (parse) and the listing's writers (listing, output).
 #![tactic(auto)]
 
-ghost use Rattle.std.specs.Prelude.{◌≡◌, OnOk};
+ghost use Rattle.std.specs.Prelude.{◌≡◌, length, IfSome, OnOk};
 ghost use Rattle.std.specs.Io.KnownBytes.{Appends};
 ghost use Rattle.reading.specs.Reading.{reading};
 ghost use Rattle.listing.specs.Listing.{listing};
 ghost use Rattle.list.specs.Reply.{reply};
-ghost use Rattle.list.specs.Lending.{LentSlices, counted, WroteAll};
+ghost use Rattle.list.specs.Lending.{read_bytes, LentSlices, counted, WroteAll};
 
 use config::Config;
 use head::Head;
 use output::Written;
 use std::io;
-use std::io::Write;
+use std::io::{Read, Write};
 
 // How many bytes of its input the program reads. Bytes past them change nothing: specs/Enough.
 const READ_BYTES: usize = 65553;
@@ -90,16 +90,34 @@ fn run<W: Write>(
     to.write_all(&out[0..n])
 }
 
-// Lends what a reading needs, reads the input and prints the reply.
+// Reads an input, up to the first `READ_BYTES` of its bytes, and prints the reply to all of it.
+fn serve<R: Read, W: Write>(
+    from: &mut R,
+    to: &mut W,
+    input: &mut [u8],
+    words: &mut [u32],
+    text: &mut [u8],
+    out: &mut [u8],
+) -> io::Result<()>
+    requires room { length input.old ≡ read_bytes }
+    requires lent { LentSlices words.old text.old out.old }
+    ensures { OnOk result (IfSome (R.remaining from.old) (λ bytes.
+        Appends (W.contents to.old) (W.contents to.new) (reply bytes words.old text.old))) }
+{
+    let n = input::read_full(from, input)?;
+    run(to, &input[..n], words, text, out)
+}
+
+// Lends what a reading needs.
 fn main(rt: HostRuntime) -> io::Result<()> {
     let mut input = [0u8; READ_BYTES];
     let mut words = [0u32; LENT_RECORDS * row::WIDTH];
     let mut text = [0u8; LENT_BYTES];
     let mut out = [0u8; OUTPUT_BYTES];
-    let n = input::read_full(&mut rt.stdin(), &mut input)?;
-    run(
+    serve(
+        &mut rt.stdin(),
         &mut io::writer(&rt),
-        &input[..n],
+        &mut input,
         &mut words,
         &mut text,
         &mut out,
