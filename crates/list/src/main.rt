@@ -1,6 +1,7 @@
 // The listing program (READING, 'The listing'): reads a head and a query string from standard input and prints the
-// listing of its reading. What it prints is specs/Reply, what it lends specs/Lending. Below it stand the reading of input
-// (input), the head's reader (head), the reader of query strings (parse) and the listing's writers (listing, output).
+// listing of its reading. What it prints is specs/Reply, what it lends specs/Lending. Below it stand the reading of
+// input (input), the head's reader (head), the reader of query strings (parse) and the listing's writers (listing,
+// output).
 #![tactic(auto)]
 
 ghost use Rattle.std.specs.Prelude.{◌≡◌, length, IfSome, OnOk};

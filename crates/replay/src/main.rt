@@ -1,8 +1,8 @@
 // Replays stored answers: standard input holds readings with all that they have to answer and to leave (FORMAT.md);
 // each is made by `parse` and compared, and made again from behind some other bytes. Prints a line for each case that
 // differs, and at the end how many cases there are and how many differ.
-// Below it stand the reading of input (input), the reader (parse), the settings (config), the answer's struct (reading)
-// and a record's row (row).
+// Below it stand the reading of input (input), the reader (parse), the settings (config), the answer's struct
+// (reading) and a record's row (row).
 #![tactic(auto)]
 
 mod compare; // what a reading answers and leaves, against what is stored
