@@ -1,4 +1,6 @@
 -- Bytes past the longest head don't change a head, nor bytes past those that the program reads a reply.
+use Rattle.std.proofs.Common.{Option, None, Some, Result, Ok, Err, OnOk, IfSome, subst, append-nil}
+use Rattle.std.specs.Io.KnownBytes.{Appends, Consumes, IsAtEnd}
 use mathlib.Core.Path.{◌≡◌, refl, sym, ap, ◌∙◌}
 use mathlib.Core.Bool.{Bool, true, false, cond}
 use mathlib.Core.List.{List, [], ◌∷◌, ◌++◌}
@@ -20,8 +22,8 @@ use Rattle.head.specs.declared.Head.TheVariants.{Bad, Good}
 use Rattle.listing.specs.Listing.{listing}
 use Rattle.head.specs.Heads.{begins, leading_digits, flag_in, depth_in, head_of}
 use Rattle.head.proofs.Heads.{Inside, head_inside, depth_four}
-use Rattle.list.specs.Reply.{reply_to}
-use Rattle.list.specs.Lending.{longest_head}
+use Rattle.list.specs.Reply.{reply_to, reply}
+use Rattle.list.specs.Lending.{longest_head, read_bytes}
 use Rattle.list.specs.Enough.{Enough}
 
 begins-front : (s bytes rest : List ℕ) → length s ≤ length bytes → begins s (bytes ++ rest) ≡ begins s bytes
@@ -98,3 +100,22 @@ enough first rest words text h =
     go (Good depth form start) i =
         ap listing (too_long (settings depth form false) (drop start (first ++ rest)) (drop start first) words text
         (omega (arith, length-drop start (first ++ rest), length-append first rest)) (omega (arith, length-drop start first)))
+
+-- So the reply to what was read is the reply to all that there is to read.
+whole : (from rest before after : Option (List ℕ)) (first words text : List ℕ) → Consumes from rest first → (length first < read_bytes → IsAtEnd rest)
+    → Appends before after (reply first words text) → IfSome from (λ bytes. Appends before after (reply bytes words text))
+whole None rest before after first words text c end w = tt
+whole (Some bytes) None before after first words text c end w = absurd c
+whole (Some bytes) (Some rest) before after first words text c end w = subst (Appends before after) same w
+  where
+    same : reply first words text ≡ reply bytes words text
+    same =
+        below (length first) read_bytes
+        (λ h. ap (λ l. reply l words text) (sym (c ∙ ap (λ l. first ++ l) (end h) ∙ append-nil first)))
+        (λ h. sym (ap (λ l. reply l words text) c ∙ enough first rest words text h))
+
+pub whole_on_ok : {A E : Type 0} (r : Result A E) (from rest before after : Option (List ℕ)) (first words text : List ℕ) → Consumes from rest first
+    → (length first < read_bytes → IsAtEnd rest) → OnOk r (Appends before after (reply first words text))
+    → OnOk r (IfSome from (λ bytes. Appends before after (reply bytes words text)))
+whole_on_ok (Ok x) from rest before after first words text c end w = whole from rest before after first words text c end w
+whole_on_ok (Err x) from rest before after first words text c end w = tt

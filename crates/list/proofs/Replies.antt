@@ -1,16 +1,14 @@
 -- What the program writes fits its output, and so is written whole.
 use mathlib.Core.Path.{◌≡◌, sym, ap, subst, ◌∙◌}
-use mathlib.Core.Bool.{Bool, false}
+use mathlib.Core.Bool.{Bool}
 use mathlib.Core.List.{List, ◌++◌}
-use Prim.Native.Nat.{ℕ, ◌-◌, ◌^◌, ◌≤◌, ◌<◌}
+use Prim.Native.Nat.{ℕ, ◌^◌, ◌≤◌, ◌<◌}
 use native.Mathlib.Omega.{arith}
 use borrow.Author.Tests.{le-leb}
-use lib.ListN.{length, take, drop, get_or, length-append}
+use lib.ListN.{length, drop, get_or}
 use lib.Seq.{take_all}
 use Rattle.laws.proofs.Cases.{below}
-use Rattle.laws.proofs.Lists.{mid_tail}
 use Rattle.config.specs.declared.Config.{Config}
-use Rattle.config.specs.Defaults.{settings}
 use Rattle.row.specs.Words.{record_count}
 use Rattle.reading.specs.declared.Reading.{Reading}
 use Rattle.reading.specs.Reading.{reading}
@@ -20,16 +18,15 @@ use Rattle.parse.specs.declared.Parsed.{Parsed}
 use Rattle.parse.specs.Outcomes.{answer_of, outcome_of}
 use Rattle.output.specs.declared.Written.{Written}
 use Rattle.head.specs.declared.Head.{Head}
-use Rattle.head.specs.declared.Head.TheVariants.{Bad, Good}
+use Rattle.head.specs.declared.Head.TheVariants.{Good}
 use Rattle.listing.specs.Bounded.{bounded_listing, outcome_from}
 use Rattle.output.specs.Output.{answer_for, filled}
 use Rattle.head.specs.Heads.{head_of}
-use Rattle.listing.specs.Listing.{bad_head, listing}
+use Rattle.listing.specs.Listing.{listing}
 use Rattle.listing.specs.Room.{Narrow}
 use Rattle.listing.proofs.Complete.{complete}
 use Rattle.listing.proofs.Room.{room}
 use Rattle.head.proofs.Heads.{Inside, head_inside}
-use Rattle.list.specs.Reply.{reply_to, reply}
 use Rattle.list.specs.Lending.{lent_records, lent_bytes, LentSlices, counted, WroteAll}
 
 -- Bytes that fit are written whole, and counted.
@@ -41,10 +38,6 @@ module _ (bytes out out' : List ℕ) {told : Written} {r : ℕ} (answered : told
         count = count ∙ ap counted answered ∙ rw (le-leb (length bytes) (length out) h);
         output = output ∙ ap (λ t. t ++ drop (length bytes) out) (take_all (length out) bytes h);
       }
-
--- What was written stands in the output.
-pub count-inside : (bytes out out' : List ℕ) {n : ℕ} → WroteAll bytes out out' n → n ≤ length out'
-count-inside bytes out out' w = rw (w.output, length-append) (omega (arith, w.count))
 
 -- A reading's listing fits, since its words are u32s.
 module _ (config : Config) (input words text out : List ℕ) (lent : LentSlices words text out) where
@@ -88,14 +81,3 @@ module _ (config : Config) (input words text out : List ℕ) (lent : LentSlices 
 -- The query string starts inside the input.
 pub start-inside : (input : List ℕ) {head : Head} {depth start : ℕ} {form : Bool} → head ≡ head_of input → head ≡ Good depth form start → start ≤ length input
 start-inside input told e = subst (Inside (length input)) (sym told ∙ e) (head_inside input)
-
--- The reply, by the head.
-module _ (input words text out out' : List ℕ) {head : Head} {r : ℕ} (told : head ≡ head_of input) where
-  pub bad_reply : head ≡ Bad → WroteAll bad_head out out' r → WroteAll (reply input words text) out out' r
-  bad_reply e w = subst (λ h. WroteAll (reply_to h input words text) out out' r) (sym e ∙ told) w
-
-  pub good_reply : {depth start : ℕ} {form : Bool} {config : Config} → head ≡ Good depth form start → config ≡ settings depth form false
-      → WroteAll (listing (reading config (take (length input - start) (drop start input)) words text)) out out' r
-      → WroteAll (reply input words text) out out' r
-  good_reply {start = start} e f w =
-      subst (λ h. WroteAll (reply_to h input words text) out out' r) (sym e ∙ told) (rw (f, mid_tail start input) at w)

@@ -1,18 +1,21 @@
 // The listing program (READING, 'The listing'): reads a head and a query string from standard input and prints the
-// listing of its reading. What it prints is specs/Reply, what it lends specs/Lending. Below it stand the head's reader
-// (head), the reader of query strings (parse) and the listing's writers (listing, output).
+// listing of its reading. What it prints is specs/Reply, what it lends specs/Lending. Below it stand the reading of
+// input (input), the head's reader (head), the reader of query strings (parse) and the listing's writers (listing,
+// output).
 #![tactic(auto)]
 
-ghost use Rattle.std.specs.Prelude.{◌≡◌};
+ghost use Rattle.std.specs.Prelude.{◌≡◌, length, IfSome, OnOk};
+ghost use Rattle.std.specs.Io.KnownBytes.{Appends};
 ghost use Rattle.reading.specs.Reading.{reading};
 ghost use Rattle.listing.specs.Listing.{listing};
 ghost use Rattle.list.specs.Reply.{reply};
-ghost use Rattle.list.specs.Lending.{LentSlices, counted, WroteAll};
+ghost use Rattle.list.specs.Lending.{read_bytes, LentSlices, counted, WroteAll};
 
 use config::Config;
 use head::Head;
-use libc::{STDIN_FILENO, STDOUT_FILENO};
 use output::Written;
+use std::io;
+use std::io::{Read, Write};
 
 // How many bytes of its input the program reads. Bytes past them change nothing: specs/Enough.
 const READ_BYTES: usize = 65553;
@@ -74,19 +77,50 @@ fn respond(input: &[u8], words: &mut [u32], text: &mut [u8], out: &mut [u8]) -> 
 }
 
 // Prints the reply to an input.
-fn run(input: &[u8], words: &mut [u32], text: &mut [u8], out: &mut [u8])
+fn run<W: Write>(
+    to: &mut W,
+    input: &[u8],
+    words: &mut [u32],
+    text: &mut [u8],
+    out: &mut [u8],
+) -> io::Result<()>
     requires { LentSlices words.old text.old out.old }
+    ensures { OnOk result (Appends (W.contents to.old) (W.contents to.new) (reply input.now words.old text.old)) }
 {
     let n = respond(input, words, text, out);
-    io::write_all(STDOUT_FILENO, &out[0..n]);
+    to.write_all(&out[0..n])
 }
 
-// Lends what a reading needs, reads the input and prints the reply.
-fn main() {
+// Reads an input, up to the first `READ_BYTES` of its bytes, and prints the reply to all of it.
+fn serve<R: Read, W: Write>(
+    from: &mut R,
+    to: &mut W,
+    input: &mut [u8],
+    words: &mut [u32],
+    text: &mut [u8],
+    out: &mut [u8],
+) -> io::Result<()>
+    requires room { length input.old ≡ read_bytes }
+    requires lent { LentSlices words.old text.old out.old }
+    ensures { OnOk result (IfSome (R.remaining from.old) (λ bytes.
+        Appends (W.contents to.old) (W.contents to.new) (reply bytes words.old text.old))) }
+{
+    let n = input::read_full(from, input)?;
+    run(to, &input[..n], words, text, out)
+}
+
+// Lends what a reading needs.
+fn main(rt: HostRuntime) -> io::Result<()> {
     let mut input = [0u8; READ_BYTES];
     let mut words = [0u32; LENT_RECORDS * row::WIDTH];
     let mut text = [0u8; LENT_BYTES];
     let mut out = [0u8; OUTPUT_BYTES];
-    let n = io::read_full(STDIN_FILENO, &mut input);
-    run(&input[..n], &mut words, &mut text, &mut out);
+    serve(
+        &mut rt.stdin(),
+        &mut io::writer(&rt),
+        &mut input,
+        &mut words,
+        &mut text,
+        &mut out,
+    )
 }

@@ -1,13 +1,15 @@
 // Replays stored answers: standard input holds readings with all that they have to answer and to leave (FORMAT.md);
 // each is made by `parse` and compared, and made again from behind some other bytes. Prints a line for each case that
 // differs, and at the end how many cases there are and how many differ.
-// Below it stand the reader (parse), the settings (config), the answer's struct (reading) and a record's row (row).
+// Below it stand the reading of input (input), the reader (parse), the settings (config), the answer's struct
+// (reading) and a record's row (row).
 #![tactic(auto)]
 
 mod compare; // what a reading answers and leaves, against what is stored
 mod stored; // the stored cases
 
-use libc::{STDIN_FILENO, STDOUT_FILENO};
+use std::io;
+use std::io::{Read, Write};
 use stored::Case;
 
 // How many bytes stand in front of an input, for the reading that starts behind them.
@@ -72,50 +74,58 @@ fn replay_in(case: Case, input: &[u8], left: &[u8], words: &mut [u32], text: &mu
 
 // Reads the next case, behind the bytes in front, and makes its readings. False where one differs, or where the input
 // doesn't hold the case whole.
-fn replay_case(input: &mut [u8], left: &mut [u8], words: &mut [u32], text: &mut [u8]) -> bool {
+fn replay_case<R: Read>(
+    from: &mut R,
+    input: &mut [u8],
+    left: &mut [u8],
+    words: &mut [u32],
+    text: &mut [u8],
+) -> io::Result<bool> {
     let mut head = [0u8; 36];
-    let got = io::read_full(STDIN_FILENO, &mut head);
+    let got = input::read_full(from, &mut head)?;
     if got < 36 {
-        return false;
+        return Ok(false);
     }
     let case = stored::case_of(&head);
     if input.len() < LEAD {
-        return false;
+        return Ok(false);
     }
-    if !stored::read(&mut input[LEAD..], case.len as usize) {
-        return false;
+    if !stored::read(from, &mut input[LEAD..], case.len as usize)? {
+        return Ok(false);
     }
-    if !stored::read(left, stored::left_len(case)) {
-        return false;
+    if !stored::read(from, left, stored::left_len(case))? {
+        return Ok(false);
     }
-    replay_in(case, input, left, words, text)
+    Ok(replay_in(case, input, left, words, text))
 }
 
 // Writes a text, a number and a text.
-fn print(before: &[u8], n: u32, after: &[u8]) {
-    io::write_all(STDOUT_FILENO, before);
-    io::print_decimal(STDOUT_FILENO, n as u64);
-    io::write_all(STDOUT_FILENO, after);
+fn print<W: Write>(to: &mut W, before: &[u8], n: u32, after: &[u8]) -> io::Result<()> {
+    to.write_all(before)?;
+    write!(to, "{n}")?;
+    to.write_all(after)
 }
 
 // Replays so many cases, numbered from 1, and answers how many differ. Prints a line for each of these.
-fn replay(
+fn replay<R: Read, W: Write>(
+    from: &mut R,
+    to: &mut W,
     count: u32,
     input: &mut [u8],
     left: &mut [u8],
     words: &mut [u32],
     text: &mut [u8],
-) -> u32 {
+) -> io::Result<u32> {
     let mut done = 0u32;
     let mut differ = 0u32;
     while done < count {
         done += 1;
-        if !replay_case(input, left, words, text) {
+        if !replay_case(from, input, left, words, text)? {
             differ += 1;
-            print(b"case ", done, b" differs\n");
+            print(to, b"case ", done, b" differs\n")?;
         }
     }
-    differ
+    Ok(differ)
 }
 
 // The most that a stored case has: bytes of input, records, and bytes of text.
@@ -125,13 +135,17 @@ const RECORDS: usize = 2000;
 
 const TEXT: usize = 65535;
 
-fn main() {
+fn main(rt: HostRuntime) -> io::Result<()> {
     let mut input = [b'x'; LEAD + INPUT];
     let mut left = [0u8; RECORDS * row::WIDTH * 4 + TEXT];
     let mut words = [0u32; RECORDS * row::WIDTH];
     let mut text = [0u8; TEXT];
-    let count = stored::read_count();
-    let differ = replay(count, &mut input, &mut left, &mut words, &mut text);
-    print(b"", count, b" cases, ");
-    print(b"", differ, b" differ\n");
+    let mut from = rt.stdin();
+    let mut to = io::writer(&rt);
+    let count = stored::read_count(&mut from)?;
+    let differ = replay(
+        &mut from, &mut to, count, &mut input, &mut left, &mut words, &mut text,
+    )?;
+    print(&mut to, b"", count, b" cases, ")?;
+    print(&mut to, b"", differ, b" differ\n")
 }

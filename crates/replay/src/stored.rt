@@ -2,8 +2,9 @@
 ghost use Rattle.std.specs.Prelude.{◌+◌, ◌≤◌, length};
 
 use config::Config;
-use libc::STDIN_FILENO;
 use reading::Reading;
+use std::io;
+use std::io::Read;
 
 // What stands at the front of a case: the settings, what is lent, the input's length, and what the reading has to
 // answer.
@@ -65,20 +66,20 @@ pub(crate) fn left_len(case: Case) -> usize {
 }
 
 // Reads the next n bytes of the input to the front of a slice, and tells whether they were there and found room.
-pub(crate) fn read(buffer: &mut [u8], n: usize) -> bool {
+pub(crate) fn read<R: Read>(from: &mut R, buffer: &mut [u8], n: usize) -> io::Result<bool> {
     if buffer.len() < n {
-        return false;
+        return Ok(false);
     }
-    let got = io::read_full(STDIN_FILENO, &mut buffer[0..n]);
-    got == n
+    let got = input::read_full(from, &mut buffer[0..n])?;
+    Ok(got == n)
 }
 
 // Reads the number of cases, with which the input begins: 0 where it is cut short.
-pub(crate) fn read_count() -> u32 {
+pub(crate) fn read_count<R: Read>(from: &mut R) -> io::Result<u32> {
     let mut bytes = [0u8; 4];
-    let got = io::read_full(STDIN_FILENO, &mut bytes);
+    let got = input::read_full(from, &mut bytes)?;
     if got < 4 {
-        return 0;
+        return Ok(0);
     }
-    number_at(&bytes, 0)
+    Ok(number_at(&bytes, 0))
 }
