@@ -1,5 +1,6 @@
 -- Decoding in one pass: what stands at a '%', and where the writing stands after a step.
-use Rattle.std.specs.Prelude.{ℕ, ◌+◌, ◌-◌, ◌*◌, ◌<◌, ◌≤◌, ◌≡◌, true, cond, ◌&&◌, List, ◌++◌, ltb, length, take, drop, get_or}
+use Rattle.std.specs.Prelude.{ℕ, ◌+◌, ◌-◌, ◌*◌, ◌<◌, ◌≤◌, ◌≡◌, true, cond, ◌&&◌}
+use Rattle.std.specs.Prelude.{List, ◌++◌, ltb, length, take, drop, get_or}
 use Rattle.ascii.specs.Bytes.{percent}
 use Rattle.decode.specs.Hex.{digit_of}
 use Rattle.decode.specs.Stepping.{rest}

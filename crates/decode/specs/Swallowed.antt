@@ -1,6 +1,6 @@
 -- Which bytes are swallowed by a failed escape, a `%` that names no byte. If no `+` and no `%` is among them, decoding
--- is the standard's (specs/Agreement). `decoded` of specs/Decoding, `percent_decode` of specs/Whatwg and `none_swallowed`
--- have the same cases. At a byte x, y and z next:
+-- is the standard's (specs/Agreement). `decoded` of specs/Decoding, `percent_decode` of specs/Whatwg and
+-- `none_swallowed` have the same cases. At a byte x, y and z next:
 --
 --   case                          here                 the standard    swallowed
 --   x is the last                 x                    x               nothing

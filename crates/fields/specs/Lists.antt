@@ -1,6 +1,7 @@
 -- READING, 'Field reads': a value as a list (the source's `deserialize_seq`).
 use Rattle.std.specs.Prelude.{ℕ, suc, ◌*◌, Bool, true, false, cond, List, [], ◌∷◌, eqb, ltb}
-use Rattle.reading.specs.Values.{Label, unkeyed, int_key, string_key, bare, Value, uninitialized, null, no_value, string}
+use Rattle.reading.specs.Values.{Label, unkeyed, int_key, string_key, bare}
+use Rattle.reading.specs.Values.{Value, uninitialized, null, no_value, string}
 use Rattle.reading.specs.Values.{map, sequence, Forest, none, child}
 use Rattle.fields.specs.declared.DuplicateKeyBehavior.{DuplicateKeyBehavior}
 use Rattle.refusals.specs.declared.Refusal.{Refusal}
@@ -65,7 +66,8 @@ list_of duplicates size uninitialized = refused WrongKind
 list_of duplicates size null = listed 0 []
 list_of duplicates size no_value = listed 0 []
 list_of duplicates size (string o x) = elements duplicates size (child 0 bare (string o x) none)
-list_of duplicates size (map children) = cond (int_keys children) (elements duplicates size children) (refused WrongKind)
+list_of duplicates size (map children) =
+    cond (int_keys children) (elements duplicates size children) (refused WrongKind)
 list_of duplicates size (sequence children) = elements duplicates size children
 
 -- The list of a field, into a slice of so many words.

@@ -1,6 +1,7 @@
 -- Field reads on the records that an accepted reading leaves, by record number. That they are those of the tree is
 -- proved (proofs/Agree).
-use Rattle.std.specs.Prelude.{ℕ, suc, ◌+◌, ◌*◌, ◌-◌, ◌<◌, ◌≤◌, ◌≡◌, Bool, true, false, not, cond, List, [], ◌∷◌, ◌++◌, eqb, ltb, length, replicate}
+use Rattle.std.specs.Prelude.{ℕ, suc, ◌+◌, ◌*◌, ◌-◌, ◌<◌, ◌≤◌, ◌≡◌, Bool, true, false, not, cond}
+use Rattle.std.specs.Prelude.{List, [], ◌∷◌, ◌++◌, eqb, ltb, length, replicate}
 use Rattle.utf8.specs.Test.{utf8}
 use Rattle.row.specs.Words.{text_part}
 use Rattle.row.specs.Row.{kind_word, key_kind_word, key_word, key_len_word, text_word, text_len_word, child_word}
@@ -93,7 +94,8 @@ int_keys_at ws (m ∷ ms) = cond (eqb (word ws m key_kind_word) int_key_kind) (i
 -- Whether record n is the element of index i.
 unfoldable pub is_next_at : List ℕ → ℕ → ℕ → Bool
 is_next_at ws i n =
-    cond (eqb (word ws n key_kind_word) int_key_kind) (eqb (word ws n key_word) i) (eqb (word ws n key_kind_word) no_key_kind)
+    cond (eqb (word ws n key_kind_word) int_key_kind) (eqb (word ws n key_word) i)
+    (eqb (word ws n key_kind_word) no_key_kind)
 
 -- The text of record n as the element of index i.
 unfoldable pub element_at : DuplicateKeyBehavior → List ℕ → List ℕ → ℕ → ℕ → TextRead

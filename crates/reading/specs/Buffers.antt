@@ -3,7 +3,8 @@
 -- Of buffers that a reading leaves this is the very tree that it made, record numbers and offsets included
 -- (specs/TreeHeld): none of them has another kind, or a longer way down than the steps allow.
 use Rattle.std.specs.Prelude.{ℕ, zero, suc, Bool, false, cond, List, eqb, length}
-use Rattle.row.specs.Row.{kind_word, key_kind_word, key_word, key_len_word, text_word, text_len_word, child_word, next_word}
+use Rattle.row.specs.Row.{kind_word, key_kind_word, key_word, key_len_word}
+use Rattle.row.specs.Row.{text_word, text_len_word, child_word, next_word}
 use Rattle.row.specs.Row.{map_kind, sequence_kind, string_kind, null_kind, no_value_kind, int_key_kind}
 use Rattle.row.specs.Words.{word, text_part}
 use Rattle.reading.specs.Values.{Label, unkeyed, int_key, string_key, Row, Value, uninitialized, null, no_value}

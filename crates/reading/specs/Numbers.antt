@@ -47,7 +47,8 @@ abbrev mutual
 
   pub texts_over_all : ℕ → Forest → ℕ
   texts_over_all p none = 0
-  texts_over_all p (child number row value later) = label_covers p row.label + texts_over p value + texts_over_all p later
+  texts_over_all p (child number row value later) =
+      label_covers p row.label + texts_over p value + texts_over_all p later
 
 -- A text of at least one byte.
 abbrev pub NotEmpty : List ℕ → Type 0

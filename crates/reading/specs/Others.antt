@@ -66,7 +66,8 @@ others =
     test defaults (records 2) 2 "ab=c&d=e" (refuses 15 5) ∷
     -- A key that is there already takes no text, also where none is left for it; the rest of the buffers is zero.
     test defaults (records 4) 2 "ab&%61b"
-    (holds (map_row no_key 1 0 ∷ sequence_row (str 0 2) 2 0 ∷ no_value_row no_key 3 ∷ no_value_row no_key 0 ∷ []) "ab") ∷
+    (holds (map_row no_key 1 0 ∷ sequence_row (str 0 2) 2 0 ∷ no_value_row no_key 3
+    ∷ no_value_row no_key 0 ∷ []) "ab") ∷
     test defaults (records 4) 2 "a&a"
     (holds (map_row no_key 1 0 ∷ sequence_row (str 0 1) 2 0 ∷ no_value_row no_key 3 ∷ no_value_row no_key 0 ∷ []) "a") ∷
     -- Brackets under the flag.
@@ -83,7 +84,8 @@ others =
     []) "ab[c]1") ∷
     -- At the depth.
     test (at_depth 1) (records 6) 12 "a[b][c"
-    (holds (map_row no_key 1 0 ∷ map_row (str 0 1) 2 0 ∷ map_row (str 1 1) 3 0 ∷ no_value_row (str 2 2) 0 ∷ []) "ab[c") ∷
+    (holds (map_row no_key 1 0 ∷ map_row (str 0 1) 2 0 ∷ map_row (str 1 1) 3 0
+    ∷ no_value_row (str 2 2) 0 ∷ []) "ab[c") ∷
     test (at_depth 1) (records 6) 12 "a[b][=="
     (holds (map_row no_key 1 0 ∷ map_row (str 0 1) 2 0 ∷ map_row (str 1 1) 3 0 ∷ null_row (str 2 2) 0 ∷ []) "ab[=") ∷
     test (at_depth 1) (records 6) 12 "a[b][&c=1"
@@ -128,7 +130,8 @@ others =
     -- The same in brackets; and at the depth, where the brackets belong to the key.
     usual "a[00000000000000000000000000000000000000007]=v"
     (holds (map_row no_key 1 0 ∷ map_row (str 0 1) 2 0 ∷ string_row (int 7) 1 1 0 ∷ []) "av") ∷
-    usual "a[4294967295]" (holds (map_row no_key 1 0 ∷ map_row (str 0 1) 2 0 ∷ no_value_row (int 4294967295) 0 ∷ []) "a") ∷
+    usual "a[4294967295]"
+    (holds (map_row no_key 1 0 ∷ map_row (str 0 1) 2 0 ∷ no_value_row (int 4294967295) 0 ∷ []) "a") ∷
     usual "a[4294967296]"
     (holds (map_row no_key 1 0 ∷ map_row (str 0 1) 2 0 ∷ no_value_row (str 1 10) 0 ∷ []) "a4294967296") ∷
     usual "a[1/]=v" (holds (map_row no_key 1 0 ∷ map_row (str 0 1) 2 0 ∷ string_row (str 1 2) 3 1 0 ∷ []) "a1/v") ∷

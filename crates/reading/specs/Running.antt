@@ -5,7 +5,8 @@ use Rattle.config.specs.declared.Config.{Config}
 use Rattle.reading.specs.Values.{Node}
 use Rattle.refusals.specs.declared.Refusal.{Refusal}
 use Rattle.reading.specs.Charging.{Environment, Used, Made, made, refused, Rule}
-use Rattle.reading.specs.Adding.{become_map, become_sequence, append_value, insert_unique, enter_key, push_last, at_path}
+use Rattle.reading.specs.Adding.{become_map, become_sequence, append_value, insert_unique}
+use Rattle.reading.specs.Adding.{enter_key, push_last, at_path}
 use Rattle.reading.specs.Taking.{Token, token}
 use Rattle.reading.specs.Scanning.{root, under, last, Command, skip, refuse, enter, need_map, need_sequence, add}
 use Rattle.reading.specs.Scanning.{Mode, step, finish}

@@ -3,7 +3,8 @@ use Rattle.std.specs.Prelude.{ℕ, cond, List, [], ◌∷◌, ◌++◌, eqb}
 use Rattle.records.specs.declared.store.KeyWords.{KeyWords}
 use Rattle.records.specs.declared.store.ValueWords.{ValueWords}
 use Rattle.records.specs.declared.store.Record.{Record}
-use Rattle.row.specs.Row.{kind_word, key_kind_word, key_word, key_len_word, text_word, text_len_word, child_word, next_word}
+use Rattle.row.specs.Row.{kind_word, key_kind_word, key_word, key_len_word}
+use Rattle.row.specs.Row.{text_word, text_len_word, child_word, next_word}
 use Rattle.row.specs.Words.{word, with_word}
 
 -- The key of record n.

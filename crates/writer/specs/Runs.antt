@@ -1,5 +1,6 @@
 -- Runs of bytes that are written at once: which bytes stand in them, how far they reach, and whether there is room.
-use Rattle.std.specs.Prelude.{ℕ, zero, suc, ◌+◌, ◌-◌, ◌/◌, ◌%◌, ◌≤◌, Bool, false, cond, ◌||◌, ◌&&◌, List, [], ◌∷◌, eqb, leb, ltb, length}
+use Rattle.std.specs.Prelude.{ℕ, zero, suc, ◌+◌, ◌-◌, ◌/◌, ◌%◌, ◌≤◌, Bool, false, cond, ◌||◌, ◌&&◌}
+use Rattle.std.specs.Prelude.{List, [], ◌∷◌, eqb, leb, ltb, length}
 use Rattle.ascii.specs.Bytes.{space, plus}
 use Rattle.config.specs.Limits.{max_len}
 use Rattle.writer.specs.declared.bytes.Digits.{Digits}
