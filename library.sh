@@ -5,18 +5,18 @@ set -eu
 cd "$(dirname "$(readlink -f "${BASH_SOURCE[0]}")")"
 library=target/staticlib/libqs.a
 
+# What rt keeps in a crate's out/ is no source.
 due() {
-    [ ! -f "$library" ] || [ -n "$(find crates crates.txt -newer "$library" -type f -print -quit)" ]
+    [ ! -f "$library" ] || [ -n "$(find crates crates.txt -name out -prune -o -type f -newer "$library" -print -quit)" ]
 }
 
 if due; then
-    mkdir -p target
+    mkdir -p target/staticlib
     # Of two that are called at once the second waits, and finds it done.
     exec 9>target/library.lock
     flock 9
     if due; then
-        rt staticlib qs
-        # so that a change which makes no other library doesn't bring us here again
-        touch "$library"
+        (cd crates/qs && rt lib)
+        cp crates/qs/out/libqs.a "$library"
     fi
 fi

@@ -1,4 +1,4 @@
-//! Links the static library that `rt staticlib qs` writes.
+//! Links the static library that `library.sh` writes.
 
 use std::{env, path::Path};
 
@@ -11,10 +11,7 @@ fn main() {
     let library = folder.join("libqs.a");
     println!("cargo:rerun-if-changed={}", library.display());
     if !library.is_file() {
-        eprintln!(
-            "{} is missing: run `rt staticlib qs` first",
-            library.display()
-        );
+        eprintln!("{} is missing: run `library.sh` first", library.display());
         std::process::exit(1);
     }
     println!("cargo:rustc-link-search=native={}", folder.display());

@@ -1,6 +1,6 @@
 /*
  * Reads a ticket and prints its tree, a line for each value, or says with which number and where it
- * is refused. Once the library is built (rt staticlib qs), at the repository's top:
+ * is refused. Once the library is built (./library.sh), at the repository's top:
  *
  *   cc -Iinclude examples/c/read.c target/staticlib/libqs.a -o target/read
  *   target/read 'plate[0][page]=4&caption=Fog+at+dawn'

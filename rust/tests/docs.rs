@@ -30,7 +30,7 @@ fn files(folder: &Path, found: &mut Vec<PathBuf>) {
         let path = entry.expect("an entry of the folder").path();
         let name = path.file_name().unwrap_or_default().to_string_lossy();
         match path.is_dir() {
-            true if name == "target" || name == ".git" => {}
+            true if ["target", "out", ".git"].contains(&&*name) => {}
             true => files(&path, found),
             false => found.push(path),
         }
@@ -178,16 +178,17 @@ fn file(token: &str) -> Option<PathBuf> {
 }
 
 fn is_name(token: &str) -> bool {
-    let inside = |c: char| c.is_ascii_alphanumeric() || "_-:′".contains(c);
+    let inside = |c: char| c.is_ascii_alphanumeric() || "_-:'".contains(c);
     token.starts_with(|c: char| c.is_ascii_alphabetic()) && token.chars().all(inside)
 }
 
-/// The words of a source. A hyphen is part of a name in definitions and proofs, and none in Rust.
+/// The words of a source. A hyphen is part of a name in definitions and proofs, and none in Rust; a
+/// quote ends a name there, and in Rust it may stand in front of one.
 fn words(text: &str) -> impl Iterator<Item = &str> {
-    let inside = |c: char| c.is_alphanumeric() || "_-′".contains(c);
+    let inside = |c: char| c.is_alphanumeric() || "_-'".contains(c);
     let whole = text
         .split(move |c| !inside(c))
-        .map(|word| word.trim_matches('-'));
+        .map(|word| word.trim_matches('-').trim_start_matches('\''));
     whole.flat_map(|word| word.split('-').chain([word]))
 }
 
@@ -224,7 +225,9 @@ fn crates() -> BTreeSet<String> {
     let list = text("crates.txt");
     let names = list.lines().filter(|line| !line.starts_with('#'));
     let names = names.filter_map(|line| line.split_once(':'));
-    names.map(|(name, _)| name.to_owned()).collect()
+    // behind the name may stand what kind of crate it is
+    let names = names.filter_map(|(name, _)| name.split(' ').next());
+    names.map(Into::into).collect()
 }
 
 /// A source without its comments.
@@ -362,16 +365,15 @@ fn lines_of_the_papers_end_by_100_characters() {
     }
 }
 
-/// The definitions that a file of specs uses, as paths under crates/.
+/// The definitions that a file of specs uses, as paths under crates/, but for the library's.
 fn used(text: &str) -> Vec<String> {
     let uses = text
         .lines()
-        .filter_map(|line| line.strip_prefix("use Rattle·"));
+        .filter_map(|line| line.strip_prefix("use Rattle."));
     let module = |line: &str| {
         let (of, rest) = line.split_once(".specs.")?;
         let name = rest.split(['.', ' ']).next()?;
-        let of = of.trim_end_matches("·specs");
-        (name != "declared").then(|| format!("{of}/specs/{name}"))
+        (of != "std" && name != "declared").then(|| format!("{of}/specs/{name}"))
     };
     uses.filter_map(module).collect()
 }

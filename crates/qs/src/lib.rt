@@ -1,6 +1,6 @@
-// The functions exported to C and Rust, each a thin cover of a proved one; `rt staticlib qs` writes them to one
-// archive. A slice is passed as a pointer and the count of its elements. The definitions are those of the crates
-// below, in C's numbers (specs/Numbers, specs/Arguments).
+// The functions exported to C and Rust, each a thin cover of a proved one; `rt lib` writes them to one archive, which
+// library.sh puts at target/staticlib/libqs.a. A slice is passed as a pointer and the count of its elements. The
+// definitions are those of the crates below, in C's numbers (specs/Numbers, specs/Arguments).
 // Below it stand the reader (parse), field reads (de, fields), the sheet (print), the writer (write), decoding
 // (decode), the test for UTF-8 (utf8), the settings (config) and the answer's struct (reading).
 #![tactic(auto)]

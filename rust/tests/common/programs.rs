@@ -9,17 +9,14 @@ use std::process::{Command, Stdio};
 pub const LIST_RECORDS: usize = 2_000;
 pub const LIST_BYTES: usize = qs::MAX_LEN;
 
-/// A program by its name, which `rt ci` and `rt check NAME` build. Where it is missing, the calling
-/// test is left out.
+/// A program by its name, which `programs.sh` puts there. Where it is missing, the calling test is
+/// left out.
 pub fn built(name: &str) -> Option<PathBuf> {
     let path = Path::new(env!("CARGO_MANIFEST_DIR")).join(format!("../target/bin/{name}"));
     if path.is_file() {
         return Some(path);
     }
-    leave_out(&format!(
-        "{} is missing: run `rt check {name}`",
-        path.display()
-    ));
+    leave_out(&format!("{} is missing: run `programs.sh`", path.display()));
     None
 }
 
