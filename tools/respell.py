@@ -154,21 +154,18 @@ def without_meetings(turned, words):
 
 def main(argv):
     root = os.getcwd()
-    if not os.path.isdir(os.path.join(root, "crates")):
+    if argv not in ([], ["--list"]) or not os.path.isdir(os.path.join(root, "crates")):
         print(__doc__)
         return 2
-    kit = os.environ.get("RATTLE_KIT")
-    if not kit:
-        doc = os.popen("rt doc").read().strip()
-        kit = os.path.dirname(doc)
-    if "--list" not in argv:
+    kit = os.path.dirname(os.popen("rt doc").read().strip())
+    if not argv:
         lemmas_first(root)
     turned, words = table(root, kit)
     apart(turned)
     turned, stays = without_meetings(turned, words)
     for old, (new, path) in sorted(stays.items()):
         print(f"stays: {old}, since {new} is in {os.path.relpath(path, root)}")
-    if "--list" in argv:
+    if argv:
         for old, new in sorted(turned.items()):
             print(old, new)
         return 0
