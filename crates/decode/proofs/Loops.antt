@@ -1,5 +1,5 @@
 -- That decoding never lengthens, the loop that counts, and what an answer says.
-use mathlib.Core.Path.{◌≡◌, refl, sym, ap}
+use mathlib.Core.Path.{◌≡◌, refl, ap}
 use mathlib.Core.Bool.{Bool, true, false, cond}
 use mathlib.Core.List.{List, [], ◌∷◌}
 use Prim.Native.Nat.{ℕ, ◌+◌, ◌≤◌}
@@ -7,11 +7,11 @@ use native.Mathlib.Omega.{arith}
 use borrow.Author.Tests.{leb-true}
 use lib.Dec.{eqb}
 use lib.ListN.{length, drop}
+use Rattle.std.specs.Prelude.{Some, None, is_some}
 use Rattle.laws.proofs.Cases.{split, true-false}
-use Rattle.decode.specs.declared.Decoded.{Decoded}
-use Rattle.decode.specs.declared.Decoded.TheVariants.{Yes, No}
 use Rattle.decode.specs.Hex.{is_hex}
-use Rattle.decode.specs.Decoding.{decoded, fits_in, answer_of, answer}
+use Rattle.decode.specs.Decoding.{decoded, fits_in, answer}
+use Rattle.decode.specs.Shown.{length_of}
 use Rattle.decode.specs.Stepping.{rest, Yields}
 use Rattle.decode.proofs.Steps.{rest-zero, rest-done}
 
@@ -44,20 +44,10 @@ counting_more v s = record { within = s.within; few = omega arith; so_far = omeg
 pub counting_done : {raw : List ℕ} {i k n : ℕ} → Counting raw i k n → length raw ≤ i → n ≡ length (decoded raw)
 counting_done {raw} {i} {k} v h = omega (arith, ap length (rest-done k i raw h))
 
--- The enum that has the answer.
-pub told : (raw out : List ℕ) (d : Decoded) → answer_of d ≡ answer raw out → d ≡ cond (fits_in raw out) (Yes (length (decoded raw))) No
-told raw out d = go d (fits_in raw out)
+-- A number says that the bytes fit.
+pub some-fits : (raw out : List ℕ) (n : ℕ) → Some n ≡ answer raw out → n ≤ length out
+some-fits raw out n = go (fits_in raw out) refl
   where
-    go : (d : Decoded) (b : Bool) → answer_of d ≡ cond b (true, length (decoded raw)) (false, 0) → d ≡ cond b (Yes (length (decoded raw))) No
-    go (Yes n) true q = ap Yes (ap (λ (a : Bool × ℕ). a.1) q)
-    go (Yes n) false q = true-false (ap (λ (a : Bool × ℕ). a.0) q)
-    go No true q = true-false (sym (ap (λ (a : Bool × ℕ). a.0) q))
-    go No false q = refl
-
--- A yes says that the bytes fit.
-pub yes-fits : (raw out : List ℕ) (n : ℕ) → answer_of (Yes n) ≡ answer raw out → n ≤ length out
-yes-fits raw out n = go (fits_in raw out) refl
-  where
-    go : (b : Bool) → fits_in raw out ≡ b → answer_of (Yes n) ≡ cond b (true, length (decoded raw)) (false, 0) → n ≤ length out
-    go true t q = omega (arith, ap (λ (a : Bool × ℕ). a.1) q, leb-true (length (decoded raw)) (length out) t)
-    go false t q = true-false (ap (λ (a : Bool × ℕ). a.0) q)
+    go : (b : Bool) → fits_in raw out ≡ b → Some n ≡ cond b (Some (length (decoded raw))) None → n ≤ length out
+    go true t q = omega (arith, ap length_of q, leb-true (length (decoded raw)) (length out) t)
+    go false t q = true-false (ap is_some q)

@@ -1,12 +1,13 @@
 -- What is shown after decoding (specs/ShownAfter).
 use mathlib.Core.Path.{◌≡◌, sym, ap, ◌∙◌}
-use mathlib.Core.Bool.{Bool, true, false}
+use mathlib.Core.Bool.{true, false}
 use mathlib.Core.List.{List, [], ◌++◌}
 use Prim.Native.Nat.{ℕ}
 use lib.ListN.{length, drop}
 use lib.Seq.{take-append_seam}
 use Rattle.laws.proofs.Cases.{split}
-use Rattle.decode.specs.Decoding.{decoded, fits_in, answer_of}
+use Rattle.std.specs.Prelude.{is_some}
+use Rattle.decode.specs.Decoding.{decoded, fits_in}
 use Rattle.decode.specs.Shown.{all_plain, length_of}
 use Rattle.decode.specs.ShownAfter.{Calls, ShownAfter}
 use Rattle.decode.proofs.Plain.{plain-decoded}
@@ -18,7 +19,7 @@ module _ (raw : List ℕ) (calls : Calls raw) where
 
   shown_fitting : fits_in raw calls.lent ≡ true → calls.shown ≡ decoded raw
   shown_fitting f =
-      let n : length_of calls.answered ≡ length (decoded raw) = ap (λ (a : Bool × ℕ). a.1) (simp f at calls.answers) in
+      let n : length_of calls.answered ≡ length (decoded raw) = ap length_of (simp f at calls.answers) in
       let l : calls.left ≡ decoded raw ++ drop (length (decoded raw)) calls.lent = simp f at calls.writes in
       split (all_plain raw)
       (λ p. shown-plain p ∙ sym (plain-decoded raw p))
@@ -26,14 +27,14 @@ module _ (raw : List ℕ) (calls : Calls raw) where
 
   shown_cut : fits_in raw calls.lent ≡ false → all_plain raw ≡ false → calls.shown ≡ []
   shown_cut f p =
-      let n : length_of calls.answered ≡ 0 = ap (λ (a : Bool × ℕ). a.1) (simp f at calls.answers) in
+      let n : length_of calls.answered ≡ 0 = ap length_of (simp f at calls.answers) in
       simp (p, n) at calls.shows
 
-  answered-fits : (answer_of calls.answered).0 ≡ fits_in raw calls.lent
+  answered-fits : is_some calls.answered ≡ fits_in raw calls.lent
   answered-fits =
       split (fits_in raw calls.lent)
-      (λ f. ap (λ (a : Bool × ℕ). a.0) (simp f at calls.answers) ∙ sym f)
-      (λ f. ap (λ (a : Bool × ℕ). a.0) (simp f at calls.answers) ∙ sym f)
+      (λ f. ap is_some (simp f at calls.answers) ∙ sym f)
+      (λ f. ap is_some (simp f at calls.answers) ∙ sym f)
 
 pub shown-after : ShownAfter
 shown-after raw calls =

@@ -1,8 +1,6 @@
 -- READING, 'Decoding': what a raw segment decodes to, what `decode` answers, and what it leaves in the output.
-use Rattle.std.specs.Prelude.{ℕ, Bool, true, false, cond, not, List, [], ◌∷◌, ◌++◌, eqb, leb, length, drop}
+use Rattle.std.specs.Prelude.{ℕ, Bool, cond, not, List, [], ◌∷◌, ◌++◌, eqb, leb, length, drop, Option, Some, None}
 use Rattle.ascii.specs.Bytes.{percent, plus, space}
-use Rattle.decode.specs.declared.Decoded.{Decoded}
-use Rattle.decode.specs.declared.Decoded.TheVariants.{Yes, No}
 use Rattle.decode.specs.Hex.{is_hex, byte_of}
 
 -- What a byte stands for that starts no escape: a `+` for a space, and any other for itself.
@@ -27,15 +25,10 @@ decoded (x ∷ y ∷ z ∷ r) =
 abbrev pub fits_in : List ℕ → List ℕ → Bool
 fits_in raw out = leb (length (decoded raw)) (length out)
 
--- An answer as two values: whether it is a yes, and the length, which a no has as 0.
-abbrev pub answer_of : Decoded → Bool × ℕ
-answer_of (Yes n) = (true, n)
-answer_of No = (false, 0)
+-- What `decode` answers: the number of the decoded bytes where they fit, and `None` only where they don't.
+abbrev pub answer : List ℕ → List ℕ → Option ℕ
+answer raw out = cond (fits_in raw out) (Some (length (decoded raw))) None
 
--- What `decode` answers: a yes where the decoded bytes fit, with their number, and a no only where they don't.
-abbrev pub answer : List ℕ → List ℕ → Bool × ℕ
-answer raw out = cond (fits_in raw out) (true, length (decoded raw)) (false, 0)
-
--- What it leaves: the decoded bytes, and the output's own behind them; after a no all of the output's own.
+-- What it leaves: the decoded bytes, and the output's own behind them; after a `None` all of the output's own.
 abbrev pub written : List ℕ → List ℕ → List ℕ
 written raw out = cond (fits_in raw out) (decoded raw ++ drop (length (decoded raw)) out) out

@@ -6,19 +6,12 @@
 
 ghost use Rattle.std.specs.Prelude.{◌≡◌, not, ◌+◌, ◌<◌, ◌≤◌, leb, length, take, drop, get_or};
 ghost use Rattle.decode.specs.Hex.{digit_of};
-ghost use Rattle.decode.specs.Decoding.{decoded, plus_to_space, answer_of, answer, written};
+ghost use Rattle.decode.specs.Decoding.{decoded, plus_to_space, answer, written};
 ghost use Rattle.decode.specs.Stepping.{Yields};
 ghost use Rattle.decode.specs.Laying.{PlainTo};
-ghost use Rattle.decode.specs.Shown.{all_plain, length_of, shown_of};
+ghost use Rattle.decode.specs.Shown.{all_plain, shown_of};
 
 mod writing; // the decoded bytes written
-
-// The answer of `decode`: the number of bytes written, or that they don't fit.
-#[derive(Clone, Copy)]
-pub enum Decoded {
-    Yes(usize),
-    No,
-}
 
 // One byte of the decoding, where the next is read, and how many raw bytes from there on are swallowed unchanged.
 #[derive(Clone, Copy)]
@@ -190,41 +183,26 @@ pub fn is_plain(raw: &[u8]) -> bool
 }
 
 // Decodes `raw` into `out` and answers how many bytes it wrote; the bytes behind them stay as they were. If there is no
-// room for all, it writes none and answers no.
-pub fn decode(raw: &[u8], out: &mut [u8]) -> Decoded
-    ensures answer { answer_of result ≡ answer raw.now out.old }
+// room for all, it writes none and answers `None`.
+pub fn decode(raw: &[u8], out: &mut [u8]) -> Option<usize>
+    ensures answer { result ≡ answer raw.now out.old }
     ensures output { out.new ≡ written raw.now out.old }
 {
     if fits(raw, out.len()) {
-        let n = writing::write(raw, out);
-        Decoded::Yes(n)
+        Some(writing::write(raw, out))
     } else {
-        Decoded::No
-    }
-}
-
-// The number of bytes that decoding answered, 0 after a no.
-pub fn answered_len(answer: Decoded) -> usize
-    ensures { result ≡ length_of answer }
-{
-    match answer {
-        Decoded::Yes(n) => n,
-        Decoded::No => 0,
+        None
     }
 }
 
 // What a caller is shown: `raw` where it is its own decoding, else the front of `decoded`, in the length that was
 // answered, or all where there is less. specs/ShownAfter tells what that is after `decode` of `raw`.
-pub fn shown<'a>(raw: &'a [u8], decoded: &'a [u8], answer: Decoded) -> &'a [u8]
+pub fn shown<'a>(raw: &'a [u8], decoded: &'a [u8], answer: Option<usize>) -> &'a [u8]
     ensures { result.now ≡ shown_of raw.now decoded.now answer }
 {
     if is_plain(raw) {
         return raw;
     }
-    let n = answered_len(answer);
-    if n <= decoded.len() {
-        &decoded[0..n]
-    } else {
-        decoded
-    }
+    let n = answer.unwrap_or(0);
+    decoded.get(..n).unwrap_or(decoded)
 }
