@@ -8,6 +8,7 @@ pub mod Running
 pub mod Covering
 pub mod Records
 pub mod Reading
+pub mod Results
 pub mod Trees
 pub mod Buffers
 pub mod Keeping
