@@ -26,11 +26,9 @@ use Rattle.fields.specs.declared.DuplicateKeyBehavior.{DuplicateKeyBehavior}
 use Rattle.fields.specs.declared.DuplicateKeyBehavior.TheVariants.{TakeLast, Error}
 use Rattle.refusals.specs.declared.Refusal.{Refusal}
 use Rattle.refusals.specs.declared.Refusal.TheVariants.{NoSuchField, WrongKind, SeveralValues}
-use Rattle.fields.specs.declared.field.FieldAt.{FieldAt}
-use Rattle.fields.specs.declared.field.FieldAt.TheVariants.{Record, Refused as RefusedField}
-use Rattle.fields.specs.declared.text.TextRead.{TextRead}
-use Rattle.fields.specs.declared.text.TextRead.TheVariants.{Refused}
-use Rattle.fields.specs.Fields.{Field, found, refused, is_named, named, root_field}
+use Rattle.std.specs.Prelude.{Result, Ok, Err}
+use Rattle.fields.specs.declared.text.Text.{Text}
+use Rattle.fields.specs.Fields.{is_named, named, root_field}
 use Rattle.fields.specs.Texts.{single_text, last_text, several, text_of, text_of_field}
 use Rattle.fields.specs.Lists.{is_next, in_turn, child_count, elements, is_int_key, int_keys, list_of, list_of_field}
 use Rattle.fields.specs.OnRecords.{string_text_at, single_text_at, several_at, sequence_text_at, text_at, is_named_at}
@@ -120,7 +118,7 @@ module _ {ws text : List ℕ} where
   single_agrees (map cs) k = rw (value-kind k)
   single_agrees (sequence cs) k = rw (value-kind k)
 
-  last_agrees : (m : ℕ) (before : TextRead) (cs : Forest) → single_text_at ws text m ≡ before → Among ws text cs
+  last_agrees : (m : ℕ) (before : Result Text Refusal) (cs : Forest) → single_text_at ws text m ≡ before → Among ws text cs
       → single_text_at ws text (last_of m (numbers (nodes cs))) ≡ last_text before cs
   last_agrees m before none e k = e
   last_agrees m before (child i l v cs) e k = last_agrees i (single_text v) cs (single_agrees v (first-at k)) (later_among k)
@@ -132,14 +130,14 @@ module _ {ws text : List ℕ} where
   several_agrees Error m l v (child i j w cs) k = rw (k.represents.0.next-is, ne_eqb i 0 (not-zero (later_among k)))
 
   sequence_agrees : (d : DuplicateKeyBehavior) {n : ℕ} {l : Row} (cs : Forest) → At ws text n l (sequence cs)
-      → sequence_text_at d ws text n ≡ cond (several d cs) (Refused SeveralValues) (last_text (Refused WrongKind) cs)
+      → sequence_text_at d ws text n ≡ cond (several d cs) (Err SeveralValues) (last_text (Err WrongKind) cs)
   unfolding sequence_text_at
   sequence_agrees TakeLast none k = rw k.row.child-is
   sequence_agrees Error none k = rw k.row.child-is
   sequence_agrees d (child m j v cs) k =
       let among = sequence-among k in
       rw (children_of k, k.row.child-is, ne_eqb m 0 (not-zero among), several_agrees d m j v cs among)
-      (ap (cond (several d (child m j v cs)) (Refused SeveralValues)) (last_agrees m (single_text v) cs (single_agrees v (first-at among)) (later_among among)))
+      (ap (cond (several d (child m j v cs)) (Err SeveralValues)) (last_agrees m (single_text v) cs (single_agrees v (first-at among)) (later_among among)))
 
   pub text_agrees : (d : DuplicateKeyBehavior) {n : ℕ} {l : Row} (v : Value) → At ws text n l v → text_at d ws text n ≡ text_of d v
   unfolding text_at
@@ -163,9 +161,9 @@ module _ {ws text : List ℕ} where
       go (string_key o x) a b c h = rw (a, b, c, lies_part h)
 
 -- A record that is found holds the value that is.
-pub data SameField (ws text : List ℕ) : FieldAt → Field → Type 0 where
-  at : {n : ℕ} {l : Row} {v : Value} → At ws text n l v → SameField ws text (Record n) (found v)
-  nowhere : {x : Refusal} → SameField ws text (RefusedField x) (refused x)
+pub data SameField (ws text : List ℕ) : Result ℕ Refusal → Result Value Refusal → Type 0 where
+  at : {n : ℕ} {l : Row} {v : Value} → At ws text n l v → SameField ws text (Ok n) (Ok v)
+  nowhere : {x : Refusal} → SameField ws text (Err x) (Err x)
 
 module _ {ws text : List ℕ} (name : List ℕ) where
   named_agrees : (cs : Forest) → Among ws text cs → SameField ws text (named_at ws text name (numbers (nodes cs))) (named name cs)
@@ -175,7 +173,7 @@ module _ {ws text : List ℕ} (name : List ℕ) where
       rw (named-label name l (first-at k) k.texts.0) (go (is_named name l.label) (named_agrees cs (later_among k)))
     where
       go : (b : Bool) → SameField ws text (named_at ws text name (numbers (nodes cs))) (named name cs)
-          → SameField ws text (cond b (Record m) (named_at ws text name (numbers (nodes cs)))) (cond b (found v) (named name cs))
+          → SameField ws text (cond b (Ok m) (named_at ws text name (numbers (nodes cs)))) (cond b (Ok v) (named name cs))
       go true f = at (first-at k)
       go false f = f
 
@@ -186,7 +184,7 @@ module _ {ws text : List ℕ} (name : List ℕ) where
   field_agrees no_value k = rw (value-kind k) nowhere
   field_agrees (string o x) k = rw (value-kind k) (go name)
     where
-      go : (s : List ℕ) → SameField ws text (cond (eqb (length s) 0) (Record 0) (RefusedField NoSuchField)) (root_field s (string o x))
+      go : (s : List ℕ) → SameField ws text (cond (eqb (length s) 0) (Ok 0) (Err NoSuchField)) (root_field s (string o x))
       go [] = at k
       go (b ∷ s) = rw (ne_eqb (suc (length s)) 0 (λ e. omega arith)) nowhere
   field_agrees (map cs) k = rw (value-kind k, children_of k) (named_agrees cs (map-among k))
@@ -197,7 +195,7 @@ count_agrees none = refl
 count_agrees (child m l v cs) = ap suc (count_agrees cs)
 
 module _ {ws text : List ℕ} (d : DuplicateKeyBehavior) where
-  pub field_text : {f : FieldAt} {g : Field} → SameField ws text f g → field_text_at d ws text f ≡ text_of_field d g
+  pub field_text : {f : Result ℕ Refusal} {g : Result Value Refusal} → SameField ws text f g → field_text_at d ws text f ≡ text_of_field d g
   field_text (at {v = v} k) = text_agrees d v k
   field_text nowhere = refl
 
@@ -242,6 +240,6 @@ module _ {ws text : List ℕ} (d : DuplicateKeyBehavior) where
   list_agrees size {n} (map cs) k = rw (value-kind k, elements_agree size n cs (children_of k) (map-among k), children_of k, int_agrees cs (map-among k))
   list_agrees size {n} (sequence cs) k = rw (value-kind k) (elements_agree size n cs (children_of k) (sequence-among k))
 
-  pub field_list : (size : ℕ) {f : FieldAt} {g : Field} → SameField ws text f g → field_list_at d ws text size f ≡ list_of_field d size g
+  pub field_list : (size : ℕ) {f : Result ℕ Refusal} {g : Result Value Refusal} → SameField ws text f g → field_list_at d ws text size f ≡ list_of_field d size g
   field_list size (at {v = v} k) = list_agrees size v k
   field_list size nowhere = refl

@@ -8,20 +8,21 @@ use Rattle.reading.specs.Values.{bare, Value, uninitialized, null, no_value, str
 use Rattle.records.specs.Nodes.{size}
 use Rattle.tree.specs.Nodes.{below, nodes}
 use Rattle.fields.specs.declared.DuplicateKeyBehavior.{DuplicateKeyBehavior}
-use Rattle.fields.specs.declared.text.TextRead.{TextRead}
-use Rattle.fields.specs.declared.text.TextRead.TheVariants.{Text, Refused}
-use Rattle.fields.specs.Fields.{Field, found, is_named, named, root_field}
-use Rattle.fields.specs.Lists.{ListResult, listed, prepend, element_text, in_turn, child_count, elements, int_keys, list_of, list_of_field}
+use Rattle.std.specs.Prelude.{Result, Ok, Err}
+use Rattle.refusals.specs.declared.Refusal.{Refusal}
+use Rattle.fields.specs.declared.text.Text.{Text}
+use Rattle.fields.specs.Fields.{is_named, named, root_field}
+use Rattle.fields.specs.Lists.{Listed, prepend, element_text, in_turn, child_count, elements, int_keys, list_of, list_of_field}
 
 -- The records of a field, and the elements of a list, are at most n.
 module _ (n : ℕ) where
-  abbrev FewRecords : Field → Type 0
-  FewRecords (found v) = size (below v) + 1 ≤ n
-  FewRecords (Field.refused x) = Unit {0}
+  abbrev FewRecords : Result Value Refusal → Type 0
+  FewRecords (Ok v) = size (below v) + 1 ≤ n
+  FewRecords (Err x) = Unit {0}
 
-  abbrev pub FewElements : ListResult → Type 0
-  FewElements (listed k words) = k ≤ n
-  FewElements (ListResult.refused x) = Unit {0}
+  abbrev pub FewElements : Result Listed Refusal → Type 0
+  FewElements (Ok l) = l.count ≤ n
+  FewElements (Err x) = Unit {0}
 
 few-named : {n : ℕ} (name : List ℕ) (cs : Forest) → size (nodes cs) ≤ n → FewRecords n (named name cs)
 few-named name none h = tt
@@ -36,10 +37,10 @@ few_in_field (b ∷ s) (string o x) h = tt
 few_in_field name (map cs) h = few-named name cs (omega arith)
 few_in_field name (sequence cs) h = tt
 
-few-more : {m n : ℕ} (r : TextRead) (later : ListResult) → m < n → FewElements m later → FewElements n (prepend r later)
-few-more (Text o k) (listed i words) l h = omega arith
-few-more (Text o k) (ListResult.refused x) l h = tt
-few-more (Refused x) later l h = tt
+few-more : {m n : ℕ} (r : Result Text Refusal) (later : Result Listed Refusal) → m < n → FewElements m later → FewElements n (prepend r later)
+few-more (Ok t) (Ok later) l h = omega arith
+few-more (Ok t) (Err x) l h = tt
+few-more (Err x) later l h = tt
 
 module _ (d : DuplicateKeyBehavior) where
   few_in_turn : {n : ℕ} (i : ℕ) (cs : Forest) → size (nodes cs) ≤ n → FewElements n (in_turn d i cs)
@@ -62,6 +63,6 @@ module _ (d : DuplicateKeyBehavior) where
     pub few : (name : List ℕ) (v : Value) → size (below v) + 1 ≤ n → FewElements n (list_of_field d room (root_field name v))
     few name v h = go (root_field name v) (few_in_field name v h)
       where
-        go : (f : Field) → FewRecords n f → FewElements n (list_of_field d room f)
-        go (found w) l = few_in_list w l
-        go (Field.refused x) l = tt
+        go : (f : Result Value Refusal) → FewRecords n f → FewElements n (list_of_field d room f)
+        go (Ok w) l = few_in_list w l
+        go (Err x) l = tt

@@ -12,7 +12,7 @@ use Rattle.row.specs.Words.{record_count, word}
 use Rattle.records.specs.Siblings.{Linked}
 use Rattle.records.proofs.Chains.{is_record, children-end}
 use Rattle.refusals.specs.declared.Refusal.TheVariants.{NotUtf8}
-use Rattle.fields.specs.declared.text.TextRead.TheVariants.{Text, Refused}
+use Rattle.std.specs.Prelude.{Ok, Err}
 use Rattle.fields.specs.OnRecords.{string_text_at}
 
 -- The part of the text that is tested is the record's.
@@ -21,11 +21,11 @@ module _ (ws text : List ℕ) (n : ℕ) {offset len : ℕ} {b : Bool} (p : offse
   tested : b ≡ utf8 (take (word ws n text_len_word) (drop (word ws n text_word) text))
   tested = e ∙ ap utf8 (simp (add-sub_cancel_left, p, q))
 
-  pub is-text : b ≡ true → Text offset len ≡ string_text_at ws text n
+  pub is-text : b ≡ true → Ok (record { offset = offset; len = len }) ≡ string_text_at ws text n
   unfolding string_text_at
   is-text h = rw (sym tested ∙ h, p, q)
 
-  pub no_text : b ≡ false → Refused NotUtf8 ≡ string_text_at ws text n
+  pub no_text : b ≡ false → Err NotUtf8 ≡ string_text_at ws text n
   unfolding string_text_at
   no_text h = rw (sym tested ∙ h)
 

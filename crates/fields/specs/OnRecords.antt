@@ -1,7 +1,7 @@
 -- Field reads on the records that an accepted reading leaves, by record number. That they are those of the tree is
 -- proved (proofs/Agree).
 use Rattle.std.specs.Prelude.{ℕ, suc, ◌+◌, ◌*◌, ◌-◌, ◌<◌, ◌≤◌, ◌≡◌, Bool, true, false, not, cond}
-use Rattle.std.specs.Prelude.{List, [], ◌∷◌, ◌++◌, eqb, ltb, length, replicate}
+use Rattle.std.specs.Prelude.{List, [], ◌∷◌, ◌++◌, eqb, ltb, length, replicate, Result, Ok, Err}
 use Rattle.utf8.specs.Test.{utf8}
 use Rattle.row.specs.Words.{text_part}
 use Rattle.row.specs.Row.{kind_word, key_kind_word, key_word, key_len_word, text_word, text_len_word, child_word}
@@ -14,14 +14,9 @@ use Rattle.fields.specs.declared.DuplicateKeyBehavior.TheVariants.{TakeLast, Err
 use Rattle.refusals.specs.declared.Refusal.{Refusal}
 use Rattle.refusals.specs.declared.Refusal.TheVariants.{WrongRoot, NoSuchField, WrongKind, SeveralValues}
 use Rattle.refusals.specs.declared.Refusal.TheVariants.{MissingIndex, NotUtf8, ShortSlice}
-use Rattle.fields.specs.declared.field.FieldAt.{FieldAt}
-use Rattle.fields.specs.declared.field.FieldAt.TheVariants.{Record, Refused as RefusedField}
-use Rattle.fields.specs.declared.text.TextRead.{TextRead}
-use Rattle.fields.specs.declared.text.TextRead.TheVariants.{Text, Refused}
-use Rattle.fields.specs.declared.list.ListRead.{ListRead}
-use Rattle.fields.specs.declared.list.ListRead.TheVariants.{Elements, Refused as RefusedList}
+use Rattle.fields.specs.declared.text.Text.{Text}
 use Rattle.fields.specs.Fields.{same_bytes}
-use Rattle.fields.specs.Lists.{ListResult, listed, refused, prepend}
+use Rattle.fields.specs.Lists.{Listed, no_elements, prepend}
 
 -- What the functions ask of the words and the text: records linked in lists that end, keys and values that lie in the
 -- text.
@@ -30,19 +25,19 @@ pub record Readable (ws text : List ℕ) : Type 0 where
   pub values : (n : ℕ) → n < record_count ws → word ws n text_word + word ws n text_len_word ≤ length text
 
 -- The text of a String.
-unfoldable pub string_text_at : List ℕ → List ℕ → ℕ → TextRead
+unfoldable pub string_text_at : List ℕ → List ℕ → ℕ → Result Text Refusal
 string_text_at ws text n =
     cond (utf8 (text_part text (word ws n text_word) (word ws n text_len_word)))
-    (Text (word ws n text_word) (word ws n text_len_word))
-    (Refused NotUtf8)
+    (Ok (record { offset = word ws n text_word; len = word ws n text_len_word }))
+    (Err NotUtf8)
 
 -- The text of record n where it is no Sequence.
-unfoldable pub single_text_at : List ℕ → List ℕ → ℕ → TextRead
+unfoldable pub single_text_at : List ℕ → List ℕ → ℕ → Result Text Refusal
 single_text_at ws text n =
     cond (eqb (word ws n kind_word) string_kind) (string_text_at ws text n)
-    (cond (eqb (word ws n kind_word) null_kind) (Text 0 0)
-    (cond (eqb (word ws n kind_word) no_value_kind) (Text 0 0)
-    (Refused WrongKind)))
+    (cond (eqb (word ws n kind_word) null_kind) (Ok (record { offset = 0; len = 0 }))
+    (cond (eqb (word ws n kind_word) no_value_kind) (Ok (record { offset = 0; len = 0 }))
+    (Err WrongKind)))
 
 -- Whether duplicates are refused and there are some, by the first element's next sibling.
 abbrev pub several_at : DuplicateKeyBehavior → ℕ → Bool
@@ -50,14 +45,14 @@ several_at TakeLast next = false
 several_at Error next = not (eqb next 0)
 
 -- The text of a Sequence.
-unfoldable pub sequence_text_at : DuplicateKeyBehavior → List ℕ → List ℕ → ℕ → TextRead
+unfoldable pub sequence_text_at : DuplicateKeyBehavior → List ℕ → List ℕ → ℕ → Result Text Refusal
 sequence_text_at duplicates ws text n =
-    cond (eqb (word ws n child_word) 0) (Refused WrongKind)
-    (cond (several_at duplicates (word ws (word ws n child_word) next_word)) (Refused SeveralValues)
+    cond (eqb (word ws n child_word) 0) (Err WrongKind)
+    (cond (several_at duplicates (word ws (word ws n child_word) next_word)) (Err SeveralValues)
     (single_text_at ws text (last_of 0 (children ws n))))
 
 -- The text of record n.
-unfoldable pub text_at : DuplicateKeyBehavior → List ℕ → List ℕ → ℕ → TextRead
+unfoldable pub text_at : DuplicateKeyBehavior → List ℕ → List ℕ → ℕ → Result Text Refusal
 text_at duplicates ws text n =
     cond (eqb (word ws n kind_word) sequence_kind) (sequence_text_at duplicates ws text n) (single_text_at ws text n)
 
@@ -68,23 +63,23 @@ is_named_at ws text name n =
     (same_bytes (text_part text (word ws n key_word) (word ws n key_len_word)) name) false
 
 -- The first record of that name in a list of siblings.
-unfoldable pub named_at : List ℕ → List ℕ → List ℕ → List ℕ → FieldAt
-named_at ws text name [] = RefusedField NoSuchField
-named_at ws text name (m ∷ ms) = cond (is_named_at ws text name m) (Record m) (named_at ws text name ms)
+unfoldable pub named_at : List ℕ → List ℕ → List ℕ → List ℕ → Result ℕ Refusal
+named_at ws text name [] = Err NoSuchField
+named_at ws text name (m ∷ ms) = cond (is_named_at ws text name m) (Ok m) (named_at ws text name ms)
 
 -- The record of the field of a name.
-unfoldable pub field_at : List ℕ → List ℕ → List ℕ → FieldAt
+unfoldable pub field_at : List ℕ → List ℕ → List ℕ → Result ℕ Refusal
 field_at ws text name =
     cond (eqb (word ws 0 kind_word) map_kind) (named_at ws text name (children ws 0))
-    (cond (eqb (word ws 0 kind_word) string_kind) (cond (eqb (length name) 0) (Record 0) (RefusedField NoSuchField))
-    (cond (eqb (word ws 0 kind_word) sequence_kind) (RefusedField WrongRoot)
-    (cond (eqb (word ws 0 kind_word) uninitialized_kind) (RefusedField WrongRoot)
-    (RefusedField NoSuchField))))
+    (cond (eqb (word ws 0 kind_word) string_kind) (cond (eqb (length name) 0) (Ok 0) (Err NoSuchField))
+    (cond (eqb (word ws 0 kind_word) sequence_kind) (Err WrongRoot)
+    (cond (eqb (word ws 0 kind_word) uninitialized_kind) (Err WrongRoot)
+    (Err NoSuchField))))
 
 -- The text of the field.
-abbrev pub field_text_at : DuplicateKeyBehavior → List ℕ → List ℕ → FieldAt → TextRead
-field_text_at duplicates ws text (Record n) = text_at duplicates ws text n
-field_text_at duplicates ws text (RefusedField x) = Refused x
+abbrev pub field_text_at : DuplicateKeyBehavior → List ℕ → List ℕ → Result ℕ Refusal → Result Text Refusal
+field_text_at duplicates ws text (Ok n) = text_at duplicates ws text n
+field_text_at duplicates ws text (Err x) = Err x
 
 -- Whether each record of a list has an Int key.
 unfoldable pub int_keys_at : List ℕ → List ℕ → Bool
@@ -98,43 +93,43 @@ is_next_at ws i n =
     (eqb (word ws n key_kind_word) no_key_kind)
 
 -- The text of record n as the element of index i.
-unfoldable pub element_at : DuplicateKeyBehavior → List ℕ → List ℕ → ℕ → ℕ → TextRead
-element_at duplicates ws text i n = cond (is_next_at ws i n) (text_at duplicates ws text n) (Refused MissingIndex)
+unfoldable pub element_at : DuplicateKeyBehavior → List ℕ → List ℕ → ℕ → ℕ → Result Text Refusal
+element_at duplicates ws text i n = cond (is_next_at ws i n) (text_at duplicates ws text n) (Err MissingIndex)
 
 -- The texts of the records of a list, from index i on.
-unfoldable pub in_turn_at : DuplicateKeyBehavior → List ℕ → List ℕ → ℕ → List ℕ → ListResult
-in_turn_at duplicates ws text i [] = listed 0 []
+unfoldable pub in_turn_at : DuplicateKeyBehavior → List ℕ → List ℕ → ℕ → List ℕ → Result Listed Refusal
+in_turn_at duplicates ws text i [] = Ok no_elements
 in_turn_at duplicates ws text i (m ∷ ms) =
     prepend (element_at duplicates ws text i m) (in_turn_at duplicates ws text (suc i) ms)
 
 -- The children of record n as a list's elements, into a slice of so many words.
-unfoldable pub elements_at : DuplicateKeyBehavior → List ℕ → List ℕ → ℕ → ℕ → ListResult
+unfoldable pub elements_at : DuplicateKeyBehavior → List ℕ → List ℕ → ℕ → ℕ → Result Listed Refusal
 elements_at duplicates ws text size n =
-    cond (ltb size (2 * length (children ws n))) (refused ShortSlice) (in_turn_at duplicates ws text 0 (children ws n))
+    cond (ltb size (2 * length (children ws n))) (Err ShortSlice) (in_turn_at duplicates ws text 0 (children ws n))
 
 -- A String as a list's one element.
-unfoldable pub one_at : List ℕ → List ℕ → ℕ → ℕ → ListResult
-one_at ws text size n = cond (ltb size 2) (refused ShortSlice) (prepend (single_text_at ws text n) (listed 0 []))
+unfoldable pub one_at : List ℕ → List ℕ → ℕ → ℕ → Result Listed Refusal
+one_at ws text size n = cond (ltb size 2) (Err ShortSlice) (prepend (single_text_at ws text n) (Ok no_elements))
 
 -- The list of record n, into a slice of so many words.
-unfoldable pub list_at : DuplicateKeyBehavior → List ℕ → List ℕ → ℕ → ℕ → ListResult
+unfoldable pub list_at : DuplicateKeyBehavior → List ℕ → List ℕ → ℕ → ℕ → Result Listed Refusal
 list_at duplicates ws text size n =
     cond (eqb (word ws n kind_word) string_kind) (one_at ws text size n)
     (cond (eqb (word ws n kind_word) sequence_kind) (elements_at duplicates ws text size n)
     (cond (eqb (word ws n kind_word) map_kind)
-    (cond (int_keys_at ws (children ws n)) (elements_at duplicates ws text size n) (refused WrongKind))
-    (cond (eqb (word ws n kind_word) uninitialized_kind) (refused WrongKind)
-    (listed 0 []))))
+    (cond (int_keys_at ws (children ws n)) (elements_at duplicates ws text size n) (Err WrongKind))
+    (cond (eqb (word ws n kind_word) uninitialized_kind) (Err WrongKind)
+    (Ok no_elements))))
 
 -- The list of the field.
-abbrev pub field_list_at : DuplicateKeyBehavior → List ℕ → List ℕ → ℕ → FieldAt → ListResult
-field_list_at duplicates ws text size (Record n) = list_at duplicates ws text size n
-field_list_at duplicates ws text size (RefusedField x) = refused x
+abbrev pub field_list_at : DuplicateKeyBehavior → List ℕ → List ℕ → ℕ → Result ℕ Refusal → Result Listed Refusal
+field_list_at duplicates ws text size (Ok n) = list_at duplicates ws text size n
+field_list_at duplicates ws text size (Err x) = Err x
 
 -- What a list read answers and leaves in a slice of so many words: the elements' words and zeros; or, after a
 -- refusal, anything, since a list read clears the slice then.
-pub data Writes (size : ℕ) (l : List ℕ) : ListResult → ListRead → Type 0 where
+pub data Writes (size : ℕ) (l : List ℕ) : Result Listed Refusal → Result ℕ Refusal → Type 0 where
   wrote :
-      {count : ℕ} {words : List ℕ}
-      → l ≡ words ++ replicate (size - length words) 0 → Writes size l (listed count words) (Elements count)
-  stopped : {x : Refusal} → length l ≡ size → Writes size l (refused x) (RefusedList x)
+      {listed : Listed}
+      → l ≡ listed.words ++ replicate (size - length listed.words) 0 → Writes size l (Ok listed) (Ok listed.count)
+  stopped : {x : Refusal} → length l ≡ size → Writes size l (Err x) (Err x)

@@ -5,26 +5,19 @@ ghost use Rattle.records.specs.Siblings.{children, Linked};
 ghost use Rattle.fields.specs.OnRecords.{Readable, int_keys_at, is_next_at, element_at, in_turn_at, elements_at};
 ghost use Rattle.fields.specs.OnRecords.{one_at, list_at, field_at, field_list_at, Writes};
 
-use crate::field::FieldAt;
-use crate::text::TextRead;
+use crate::text::Text;
 use crate::{DuplicateKeyBehavior, field, text};
 use clearing::clear_words;
 use refusals::Refusal;
-
-// The number of elements, or a refusal.
-#[derive(Clone, Copy)]
-pub enum ListRead {
-    Elements(usize),
-    Refused(Refusal),
-}
+use row::{KeyKind, Kind};
 
 // Writes the offset and length of element i. Nothing else changes.
-fn write_element(list: &mut [u32], i: usize, offset: u32, len: u32)
+fn write_element(list: &mut [u32], i: usize, element: Text)
     requires { 2 * i + 1 < length list.old }
-    ensures { list.new ≡ set (set list.old (2 * i) offset) (2 * i + 1) len }
+    ensures { list.new ≡ set (set list.old (2 * i) element.offset) (2 * i + 1) element.len }
 {
-    list[2 * i] = offset;
-    list[2 * i + 1] = len;
+    list[2 * i] = element.offset;
+    list[2 * i + 1] = element.len;
 }
 
 // Whether every child of a record has an Int key.
@@ -35,8 +28,7 @@ fn has_int_keys(words: &[u32], n: u32) -> bool
 {
     let mut cur = row::get_word(words, n, row::CHILD);
     while cur != 0 {
-        let kind = row::get_word(words, cur, row::KEY_KIND);
-        if kind != row::INT_KEY {
+        if row::int_key(words, cur).is_none() {
             return false;
         }
         cur = row::get_word(words, cur, row::NEXT);
@@ -60,26 +52,27 @@ fn count_children(words: &[u32], n: u32) -> usize
 }
 
 // Whether record n is the element of index i: a Map's by its key, a Sequence's in any case.
+#[tactic(auto, unfolding(crate::specs::OnRecords::is_next_at))]
 fn is_next(words: &[u32], i: usize, n: u32) -> bool
     requires { n < record_count words.now }
     ensures { result ≡ is_next_at words.now i n }
 {
-    let kind = row::get_word(words, n, row::KEY_KIND);
-    if kind == row::INT_KEY {
-        let index = row::get_word(words, n, row::KEY) as usize;
-        return index == i;
+    match KeyKind::try_from(row::get_word(words, n, row::KEY_KIND)) {
+        Ok(KeyKind::None) => true,
+        Ok(KeyKind::Int) => row::get_word(words, n, row::KEY) as usize == i,
+        _ => false,
     }
-    kind == row::NO_KEY
 }
 
 // The text of record n as the element of index i.
+#[tactic(auto, unfolding(crate::specs::OnRecords::element_at))]
 fn read_element(
     words: &[u32],
     text: &[u8],
     i: usize,
     n: u32,
     duplicates: DuplicateKeyBehavior,
-) -> TextRead
+) -> Result<Text, Refusal>
     requires readable { Readable words.now text.now }
     requires inside { n < record_count words.now }
     ensures { result ≡ element_at duplicates words.now text.now i n }
@@ -87,7 +80,7 @@ fn read_element(
     if is_next(words, i, n) {
         return text::read_text(words, text, n, duplicates);
     }
-    TextRead::Refused(Refusal::MissingIndex)
+    Err(Refusal::MissingIndex)
 }
 
 // Reads the children of a record in turn into a cleared slice that has room for them. It stops at the first refusal.
@@ -97,7 +90,7 @@ fn read_in_turn(
     n: u32,
     duplicates: DuplicateKeyBehavior,
     list: &mut [u32],
-) -> ListRead
+) -> Result<usize, Refusal>
     requires readable { Readable words.now text.now }
     requires inside { n < record_count words.now }
     requires clear { list.old ≡ replicate (length list.old) 0 }
@@ -108,18 +101,12 @@ fn read_in_turn(
     let mut i: usize = 0;
     let mut cur = row::get_word(words, n, row::CHILD);
     while cur != 0 {
-        match read_element(words, text, i, cur, duplicates) {
-            TextRead::Text(offset, len) => {
-                write_element(list, i, offset, len);
-                i += 1;
-                cur = row::get_word(words, cur, row::NEXT);
-            }
-            TextRead::Refused(refusal) => {
-                return ListRead::Refused(refusal);
-            }
-        }
+        let element = read_element(words, text, i, cur, duplicates)?;
+        write_element(list, i, element);
+        i += 1;
+        cur = row::get_word(words, cur, row::NEXT);
     }
-    ListRead::Elements(i)
+    Ok(i)
 }
 
 // Reads the children of a record into a cleared slice, which must have room for them.
@@ -129,7 +116,7 @@ fn read_children(
     n: u32,
     duplicates: DuplicateKeyBehavior,
     list: &mut [u32],
-) -> ListRead
+) -> Result<usize, Refusal>
     requires readable { Readable words.now text.now }
     requires inside { n < record_count words.now }
     requires clear { list.old ≡ replicate (length list.old) 0 }
@@ -138,13 +125,14 @@ fn read_children(
 {
     let count = count_children(words, n);
     if list.len() < 2 * count {
-        return ListRead::Refused(Refusal::ShortSlice);
+        return Err(Refusal::ShortSlice);
     }
     read_in_turn(words, text, n, duplicates, list)
 }
 
 // Reads a String as the one element of a list into a cleared slice.
-fn read_one(words: &[u32], text: &[u8], n: u32, list: &mut [u32]) -> ListRead
+#[tactic(auto, unfolding(crate::specs::OnRecords::one_at))]
+fn read_one(words: &[u32], text: &[u8], n: u32, list: &mut [u32]) -> Result<usize, Refusal>
     requires readable { Readable words.now text.now }
     requires inside { n < record_count words.now }
     requires clear { list.old ≡ replicate (length list.old) 0 }
@@ -152,48 +140,37 @@ fn read_one(words: &[u32], text: &[u8], n: u32, list: &mut [u32]) -> ListRead
         (one_at words.now text.now (length list.old) n) result }
 {
     if list.len() < 2 {
-        return ListRead::Refused(Refusal::ShortSlice);
+        return Err(Refusal::ShortSlice);
     }
-    match text::single_text(words, text, n) {
-        TextRead::Text(offset, len) => {
-            write_element(list, 0, offset, len);
-            ListRead::Elements(1)
-        }
-        TextRead::Refused(refusal) => ListRead::Refused(refusal),
-    }
+    let element = text::single_text(words, text, n)?;
+    write_element(list, 0, element);
+    Ok(1)
 }
 
 // The list of a record, read into a cleared slice.
+#[tactic(auto, unfolding(crate::specs::OnRecords::list_at))]
 fn read_list(
     words: &[u32],
     text: &[u8],
     n: u32,
     duplicates: DuplicateKeyBehavior,
     list: &mut [u32],
-) -> ListRead
+) -> Result<usize, Refusal>
     requires readable { Readable words.now text.now }
     requires inside { n < record_count words.now }
     requires clear { list.old ≡ replicate (length list.old) 0 }
     ensures { Writes (length list.old) list.new
         (list_at duplicates words.now text.now (length list.old) n) result }
 {
-    let kind = row::get_word(words, n, row::KIND);
-    if kind == row::STRING {
-        return read_one(words, text, n, list);
-    }
-    if kind == row::SEQUENCE {
-        return read_children(words, text, n, duplicates, list);
-    }
-    if kind == row::MAP {
-        if has_int_keys(words, n) {
-            return read_children(words, text, n, duplicates, list);
+    match Kind::try_from(row::get_word(words, n, row::KIND)) {
+        Ok(Kind::String) => read_one(words, text, n, list),
+        Ok(Kind::Sequence) => read_children(words, text, n, duplicates, list),
+        Ok(Kind::Map) if has_int_keys(words, n) => {
+            read_children(words, text, n, duplicates, list)
         }
-        return ListRead::Refused(Refusal::WrongKind);
+        Ok(Kind::Map | Kind::Uninitialized) => Err(Refusal::WrongKind),
+        _ => Ok(0),
     }
-    if kind == row::UNINITIALIZED {
-        return ListRead::Refused(Refusal::WrongKind);
-    }
-    ListRead::Elements(0)
 }
 
 // The list of the field of a name. What the slice held is overwritten.
@@ -203,7 +180,7 @@ pub fn field_list(
     name: &[u8],
     duplicates: DuplicateKeyBehavior,
     list: &mut [u32],
-) -> ListRead
+) -> Result<usize, Refusal>
     requires readable { Readable words.now text.now }
     requires inside { 0 < record_count words.now }
     ensures { Writes (length list.old) list.new
@@ -211,8 +188,6 @@ pub fn field_list(
         (field_at words.now text.now name.now)) result }
 {
     clear_words(list);
-    match field::root_field(words, text, name) {
-        FieldAt::Record(n) => read_list(words, text, n, duplicates, list),
-        FieldAt::Refused(refusal) => ListRead::Refused(refusal),
-    }
+    let n = field::root_field(words, text, name)?;
+    read_list(words, text, n, duplicates, list)
 }

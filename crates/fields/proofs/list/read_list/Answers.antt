@@ -1,63 +1,21 @@
--- The kinds are asked in the order of the definition; a Map passes its children on only where every key is an Int.
-use mathlib.Core.Path.{sym, ◌∙◌, refl}
-use Rattle.fields.specs.OnRecords.{list_at, stopped}
-use Rattle.fields.proofs.Comparisons.{same_word, other_word}
-use Rattle.fields.proofs.Lists.{none_written}
+-- What is refused leaves the slice as it is, and no elements leave it zero.
+use Rattle.std.proofs.Common.{rules}
+use Rattle.fields.specs.OnRecords.{list_at}
+use Rattle.fields.proofs.Lists.{none_written, turned_away}
 use Rattle.fields.proofs.list.read_list.Goals as goal
 
-pub returns-then-kind-eq-STRING : goal.returns-then-kind-eq-STRING
+pub returns-in-Ok-Map-2 : goal.returns-in-Ok-Map-2
 unfolding list_at
-returns-then-kind-eq-STRING c =
-    rw (same_word c.get_word-kind.ensures c.if-kind-eq-STRING.true) c.read_one.ensures
+returns-in-Ok-Map-2 c = turned_away (search rules)
 
-pub returns-then-kind-eq-SEQUENCE : goal.returns-then-kind-eq-SEQUENCE
+pub returns-in-Ok-Map-2-2 : goal.returns-in-Ok-Map-2-2
 unfolding list_at
-returns-then-kind-eq-SEQUENCE c =
-    rw (other_word c.get_word-kind.ensures c.if-kind-eq-STRING.false, same_word c.get_word-kind.ensures c.if-kind-eq-SEQUENCE.true)
-    c.read_children.ensures
+returns-in-Ok-Map-2-2 c = turned_away (search rules)
 
-pub returns-then-has_int_keys : goal.returns-then-has_int_keys
+pub returns-in_default : goal.returns-in_default
 unfolding list_at
-returns-then-has_int_keys c =
-    rw (
-      other_word c.get_word-kind.ensures c.if-kind-eq-STRING.false,
-      other_word c.get_word-kind.ensures c.if-kind-eq-SEQUENCE.false,
-      same_word
-          c.get_word-kind.ensures c.if-kind-eq-MAP.true,
-      sym c.has_int_keys.ensures ∙ c.if-has_int_keys.true,
-    )
-    c.read_children-then-has_int_keys.ensures
+returns-in_default c = none_written c.requires.clear (search rules)
 
-pub returns-then-kind-eq-MAP : goal.returns-then-kind-eq-MAP
+pub returns-in_default-2 : goal.returns-in_default-2
 unfolding list_at
-returns-then-kind-eq-MAP c =
-    rw (
-      other_word c.get_word-kind.ensures c.if-kind-eq-STRING.false,
-      other_word c.get_word-kind.ensures c.if-kind-eq-SEQUENCE.false,
-      same_word
-          c.get_word-kind.ensures c.if-kind-eq-MAP.true,
-      sym c.has_int_keys.ensures ∙ c.if-has_int_keys.false,
-    ) (stopped refl)
-
-pub returns-then-kind-eq-UNINITIALIZED : goal.returns-then-kind-eq-UNINITIALIZED
-unfolding list_at
-returns-then-kind-eq-UNINITIALIZED c =
-    rw (
-      other_word c.get_word-kind.ensures c.if-kind-eq-STRING.false,
-      other_word c.get_word-kind.ensures c.if-kind-eq-SEQUENCE.false,
-      other_word
-          c.get_word-kind.ensures c.if-kind-eq-MAP.false,
-      same_word c.get_word-kind.ensures c.if-kind-eq-UNINITIALIZED.true,
-    ) (stopped refl)
-
-pub returns : goal.returns
-unfolding list_at
-returns c =
-    rw (
-      other_word c.get_word-kind.ensures c.if-kind-eq-STRING.false,
-      other_word c.get_word-kind.ensures c.if-kind-eq-SEQUENCE.false,
-      other_word
-          c.get_word-kind.ensures c.if-kind-eq-MAP.false,
-      other_word c.get_word-kind.ensures c.if-kind-eq-UNINITIALIZED.false,
-    ) (none_written
-    c.requires.clear)
+returns-in_default-2 c = none_written c.requires.clear (search rules)
