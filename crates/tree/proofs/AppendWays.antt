@@ -1,12 +1,11 @@
 -- The ways through `append_value`: what it leaves and answers is what the rule of Adding makes at the record that a path leads to.
+use Rattle.std.specs.Prelude.{Option, Some, None, Result, Ok, Err}
 use mathlib.Core.Path.{◌≡◌, refl, ap, sym, ◌∙◌, subst}
 use mathlib.Core.List.{List, ◌++◌, append_assoc}
 use Prim.Native.Nat.{ℕ, ◌+◌, ◌<◌, ◌≤◌}
 use native.Mathlib.Omega.{arith}
 use lib.ListN.{length, drop, length-append}
 use Rattle.key.specs.Keys.{Key}
-use Rattle.decode.specs.declared.Decoded.{Decoded}
-use Rattle.decode.specs.declared.Decoded.TheVariants.{Yes, No}
 use Rattle.decode.specs.Shown.{length_of}
 use Rattle.indexed.specs.declared.appending.Appended.{Appended}
 use Rattle.indexed.specs.declared.appending.Appended.TheVariants.{Used, TooFew}
@@ -30,15 +29,14 @@ use Rattle.reading.specs.Covering.{gives}
 use Rattle.reading.proofs.Results.{Each, All}
 use Rattle.reading.proofs.Adds.{Adds, append-at_adds}
 use Rattle.reading.proofs.Shaped.{append-at-shaped}
+use Rattle.refusals.specs.declared.Refusal.{Refusal}
 use Rattle.tree.specs.declared.Here.{Here}
-use Rattle.tree.specs.declared.Performed.{Performed}
-use Rattle.tree.specs.declared.Performed.TheVariants.{Made as MadeHere, Refused}
 use Rattle.reading.specs.declared.LeafKind.{LeafKind}
 use Rattle.reading.specs.declared.LeafKind.TheVariants.{Null, NoValue, String}
 use Rattle.tree.specs.Nodes.{value_words, record_of, below, rooted}
 use Rattle.tree.specs.NewValues.{new_value_words, appended_at}
 use Rattle.tree.specs.Laying.{lay_answer, laid}
-use Rattle.tree.specs.Stored.{Leads, put, used_by, StoredAt}
+use Rattle.tree.specs.Stored.{Leads, put, used_by, among_of, StoredAt}
 use Rattle.tree.specs.Commands.{After, stood, stopped, Performs, along, appends, stays}
 use Rattle.tree.proofs.Lays.{lay_yes, lay_no, laid_short, laid-full, length-laid}
 use Rattle.tree.proofs.Paths.{changed}
@@ -90,17 +88,17 @@ module _ {env : Environment} {ws text : List ℕ} {here : Here} {p : List Key} {
   rule_is = ap (λ (y : Node). along p (append_value env x) y before) i.whole ∙ i.does i.value (append_value env x) before
 
   module _ {ws' : List ℕ} {a : Appended} (is : Leaves change here.aids ws' a) where
-    abbrev Goal : Performed → Type 0
+    abbrev Goal : Result Here Refusal → Type 0
     Goal r = After env ws' text' p r (along p (append_value env x) v (used_by here t))
 
-    to : {r : Performed} → After env ws' text' p r (over i.back (append_value env x i.row i.value before)) → Goal r
+    to : {r : Result Here Refusal} → After env ws' text' p r (over i.back (append_value env x i.row i.value before)) → Goal r
     to {r} g = subst (λ (m : Made Node). After env ws' text' p r m) (sym rule_is) g
 
     -- Too few records.
-    pub few-left : a ≡ TooFew → Goal (Refused TooFewRecords)
+    pub few-left : a ≡ TooFew → Goal (Err TooFewRecords)
     few-left q = to (go agreed)
       where
-        go : {m : Made Node} → Agree text' env x t c change T m → After env ws' text' p (Refused TooFewRecords) (over i.back m)
+        go : {m : Made Node} → Agree text' env x t c change T m → After env ws' text' p (Err TooFewRecords) (over i.back m)
         go (good l b h) = used-or-few (sym b ∙ sym (answer-is is) ∙ q)
         go (few b) = stopped
         go (little l b) = used-or-few (sym b ∙ sym (answer-is is) ∙ q)
@@ -109,10 +107,10 @@ module _ {env : Environment} {ws text : List ℕ} {here : Here} {p : List Key} {
     bytes-lent = ap (λ (l : Lent). l.bytes) s.lent_is
 
     -- Too little text.
-    pub little-left : {u : ℕ} → a ≡ Used u → length text < here.bytes + length (leaf_text x) → Goal (Refused TooLittleText)
+    pub little-left : {u : ℕ} → a ≡ Used u → length text < here.bytes + length (leaf_text x) → Goal (Err TooLittleText)
     little-left q l = to (go agreed)
       where
-        go : {m : Made Node} → Agree text' env x t c change T m → After env ws' text' p (Refused TooLittleText) (over i.back m)
+        go : {m : Made Node} → Agree text' env x t c change T m → After env ws' text' p (Err TooLittleText) (over i.back m)
         go (good g b h) = absurd (omega (arith, s.stores.fill, bytes-lent))
         go (few b) = used-or-few (sym q ∙ answer-is is ∙ b)
         go (little g b) = stopped
@@ -120,7 +118,7 @@ module _ {env : Environment} {ws text : List ℕ} {here : Here} {p : List Key} {
     -- Enough of both.
     pub added : {u : ℕ} → a ≡ Used u → length ws' ≡ length ws → value_words (value_at x (length t)) ≡ c
         → (free : List ℕ) → text' ≡ (t ++ leaf_text x) ++ free → here.bytes + length (leaf_text x) ≤ length text
-        → Goal (MadeHere (record { records = u; bytes = here.bytes + length (leaf_text x); node = here.node; aids = aids_for here.aids u }))
+        → Goal (Ok (record { records = u; bytes = here.bytes + length (leaf_text x); node = here.node; aids = aids_for here.aids u }))
     added {u} q lw fits free full' l =
         to
         (go agreed (appends_keep env x i.row i.value before)
@@ -130,7 +128,7 @@ module _ {env : Environment} {ws text : List ℕ} {here : Here} {p : List Key} {
         go : {m : Made Node} → Agree text' env x t c change T m → RowKept i.row m → Each (Adds v before) (over i.back m)
             → All (λ n. Shaped n.value) (over i.back m)
             → After env ws' text' p
-            (MadeHere (record { records = u; bytes = here.bytes + length (leaf_text x); node = here.node; aids = aids_for here.aids u })) (over i.back m)
+            (Ok (record { records = u; bytes = here.bytes + length (leaf_text x); node = here.node; aids = aids_for here.aids u })) (over i.back m)
         go (good {u = n} g b h) (row_kept {w = w}) (gives e) (gives o) =
             let same : Used n ≡ Used u = sym b ∙ sym (answer-is is) ∙ q in
             let same-used : n ≡ u = cc in
@@ -156,18 +154,14 @@ module _ {env : Environment} {ws text : List ℕ} {here : Here} {p : List Key} {
         go (few b) k e o = used-or-few (sym q ∙ answer-is is ∙ b)
         go (little g b) k e o = absurd (omega (arith, s.stores.fill, bytes-lent))
 
--- The record of a command, as `append` has it.
-abbrev among_of : Here → Among
-among_of here = record { parent = here.node; used = here.records; aids = here.aids }
-
 -- The code's ways, by its own facts.
-module _ (ws text : List ℕ) (here : Here) (kind : LeafKind) (value : List ℕ) {ws' text' : List ℕ} {d : Decoded} (c : ValueWords) {a : Appended}
+module _ (ws text : List ℕ) (here : Here) (kind : LeafKind) (value : List ℕ) {ws' text' : List ℕ} {d : Option ℕ} (c : ValueWords) {a : Appended}
     (e : d ≡ lay_answer text here.bytes (leaf_text (leaf_of kind value))) (et : text' ≡ laid text here.bytes (leaf_text (leaf_of kind value)))
     (does : Appends ws text' (among_of here) c ws' a) where
   abbrev x : Leaf
   x = leaf_of kind value
 
-  abbrev Promise : Performed → Type 0
+  abbrev Promise : Result Here Refusal → Type 0
   Promise r = Performs ws text ws' text' here (appends (leaf_of kind value)) stays r
 
   is : Leaves (appended (record_count does.before) does.before text' here.records here.node c) here.aids ws' a
@@ -178,7 +172,7 @@ module _ (ws text : List ℕ) (here : Here) (kind : LeafKind) (value : List ℕ)
   kept s = stored-kept does.kept s
 
   -- The value's text is laid.
-  module _ {len : ℕ} (q : d ≡ Yes len) (ec : c ≡ new_value_words kind here.bytes len) where
+  module _ {len : ℕ} (q : d ≡ Some len) (ec : c ≡ new_value_words kind here.bytes len) where
     len_is : len ≡ length (leaf_text x)
     len_is = (lay_yes text here.bytes (leaf_text x) e q).0
 
@@ -205,48 +199,48 @@ module _ (ws text : List ℕ) (here : Here) (kind : LeafKind) (value : List ℕ)
           ∙ ap (λ (m : ℕ). new_value_words kind here.bytes m) (sym len_is) ∙ sym ec
 
     append-made : {u : ℕ} → a ≡ Used u → length ws' ≡ length ws
-        → Promise (MadeHere (record { records = u; bytes = here.bytes + len; node = here.node; aids = aids_for here.aids u }))
+        → Promise (Ok (record { records = u; bytes = here.bytes + len; node = here.node; aids = aids_for here.aids u }))
     append-made {u} z lw env p v t s =
         subst
         (λ (n : ℕ).
-        After env ws' text' p (MadeHere (record { records = u; bytes = here.bytes + n; node = here.node; aids = aids_for here.aids u }))
+        After env ws' text' p (Ok (record { records = u; bytes = here.bytes + n; node = here.node; aids = aids_for here.aids u }))
         (along p (append_value env x) v (used_by here t)))
         (sym len_is)
         (added (kept s) x text' (leaf_text x ++ left) (split s) (long s) c is z (lw ∙ sym does.kept.as_many) (words_are s) left (whole s) fits)
 
-    append-few : a ≡ TooFew → Promise (Refused TooFewRecords)
+    append-few : a ≡ TooFew → Promise (Err TooFewRecords)
     append-few z env p v t s = few-left (kept s) x text' (leaf_text x ++ left) (split s) (long s) c is z
 
   -- It doesn't fit.
-  module _ (q : d ≡ No) where
+  module _ (q : d ≡ None) where
     over-full : length text < here.bytes + length (leaf_text x)
     over-full = lay_no text here.bytes (leaf_text x) e q
 
     same : text' ≡ text
     same = et ∙ laid_short text here.bytes (leaf_text x) over-full
 
-    unfit_little : {u : ℕ} → a ≡ Used u → Promise (Refused TooLittleText)
+    unfit_little : {u : ℕ} → a ≡ Used u → Promise (Err TooLittleText)
     unfit_little z env p v t s =
         little-left (kept s) x text' s.stores.free (same ∙ s.stores.full) (ap length same) c is z over-full
 
-    unfit_few : a ≡ TooFew → Promise (Refused TooFewRecords)
+    unfit_few : a ≡ TooFew → Promise (Err TooFewRecords)
     unfit_few z env p v t s = few-left (kept s) x text' s.stores.free (same ∙ s.stores.full) (ap length same) c is z
 
   -- By the answer of `append`.
   module _ (ec : c ≡ new_value_words kind here.bytes (length_of d)) where
-    words_of : {len : ℕ} → d ≡ Yes len → c ≡ new_value_words kind here.bytes len
-    words_of q = ec ∙ ap (λ (k : Decoded). new_value_words kind here.bytes (length_of k)) q
+    words_of : {len : ℕ} → d ≡ Some len → c ≡ new_value_words kind here.bytes len
+    words_of q = ec ∙ ap (λ (k : Option ℕ). new_value_words kind here.bytes (length_of k)) q
 
     pub append-enough : {u : ℕ} → a ≡ Used u → length ws' ≡ length ws → Promise (appended_at here d u)
     append-enough {u} z lw = go d refl
       where
-        go : (k : Decoded) → d ≡ k → Promise (appended_at here d u)
-        go (Yes len) q = subst (λ (k : Decoded). Promise (appended_at here k u)) (sym q) (append-made q (words_of q) z lw)
-        go No q = subst (λ (k : Decoded). Promise (appended_at here k u)) (sym q) (unfit_little q z)
+        go : (k : Option ℕ) → d ≡ k → Promise (appended_at here d u)
+        go (Some len) q = subst (λ (k : Option ℕ). Promise (appended_at here k u)) (sym q) (append-made q (words_of q) z lw)
+        go None q = subst (λ (k : Option ℕ). Promise (appended_at here k u)) (sym q) (unfit_little q z)
 
-    pub append_too_few : a ≡ TooFew → Promise (Refused TooFewRecords)
+    pub append_too_few : a ≡ TooFew → Promise (Err TooFewRecords)
     append_too_few z = go d refl
       where
-        go : (k : Decoded) → d ≡ k → Promise (Refused TooFewRecords)
-        go (Yes len) q = append-few q (words_of q) z
-        go No q = unfit_few q z
+        go : (k : Option ℕ) → d ≡ k → Promise (Err TooFewRecords)
+        go (Some len) q = append-few q (words_of q) z
+        go None q = unfit_few q z

@@ -1,16 +1,15 @@
 -- What a command adds at most: two records, and no more text than the raw bytes that it is handed.
+use Rattle.std.specs.Prelude.{Option, Some, None, Result, Ok}
 use mathlib.Core.Path.{◌≡◌, refl, subst}
 use mathlib.Core.List.{List, ◌++◌}
 use Prim.Native.Nat.{ℕ, ◌+◌, ◌≤◌}
 use native.Mathlib.Omega.{arith}
 use lib.ListN.{length, length-append}
 use Rattle.key.specs.Keys.{Key}
-use Rattle.decode.specs.declared.Decoded.{Decoded}
-use Rattle.decode.specs.declared.Decoded.TheVariants.{Yes, No}
 use Rattle.decode.specs.Shown.{length_of}
 use Rattle.decode.proofs.Loops.{decoded-le}
 use Rattle.key.specs.declared.KeyKind.{KeyKind}
-use Rattle.key.specs.declared.KeyKind.TheVariants.{None, Int, String as StringKey}
+use Rattle.key.specs.declared.KeyKind.TheVariants.{None as NoKey, Int, String as StringKey}
 use Rattle.records.specs.Keys.{meant_key}
 use Rattle.reading.specs.Values.{Row, Value, child, Node, at}
 use Rattle.reading.specs.Leaves.{Leaf, leaf_of}
@@ -21,9 +20,8 @@ use Rattle.reading.specs.Covering.{gives, refuses}
 use Rattle.reading.proofs.Results.{Each, gives-over, each-charge}
 use Rattle.reading.proofs.Changes.{new_entry, new_child, element, two}
 use Rattle.reading.proofs.Rules.{Obeys, Passes, at_path_lem, Adding, append_obeys, Entering, enter_obeys}
+use Rattle.refusals.specs.declared.Refusal.{Refusal}
 use Rattle.tree.specs.declared.Here.{Here}
-use Rattle.tree.specs.declared.Performed.{Performed}
-use Rattle.tree.specs.declared.Performed.TheVariants.{Made as MadeHere}
 use Rattle.reading.specs.declared.LeafKind.{LeafKind}
 use Rattle.reading.specs.declared.LeafKind.TheVariants.{Null, NoValue, String}
 use Rattle.tree.specs.Laying.{lay_answer}
@@ -34,7 +32,7 @@ use Rattle.tree.proofs.Lays.{lay_yes}
 key-le : (key : KeyKind) (raw : List ℕ) → length (key_text (meant_key key raw)) ≤ length raw
 unfolding meant_key
 key-le (Int i) raw = omega arith
-key-le None raw = decoded-le raw
+key-le NoKey raw = decoded-le raw
 key-le StringKey raw = decoded-le raw
 
 leaf_le : (kind : LeafKind) (raw : List ℕ) → length (leaf_text (leaf_of kind raw)) ≤ length raw
@@ -43,22 +41,22 @@ leaf_le NoValue raw = omega arith
 leaf_le String raw = decoded-le raw
 
 -- What is laid is no longer than the raw bytes.
-pub key-laid-le : (text : List ℕ) (used : ℕ) (key : KeyKind) (raw : List ℕ) {d : Decoded} → d ≡ lay_answer text used (key_text (meant_key key raw))
+pub key-laid-le : (text : List ℕ) (used : ℕ) (key : KeyKind) (raw : List ℕ) {d : Option ℕ} → d ≡ lay_answer text used (key_text (meant_key key raw))
     → length_of d ≤ length raw
 key-laid-le text used key raw {d} e = go d e
   where
-    go : (d : Decoded) → d ≡ lay_answer text used (key_text (meant_key key raw)) → length_of d ≤ length raw
-    go (Yes n) q = omega (arith, key-le key raw, (lay_yes text used (key_text (meant_key key raw)) q refl).0)
-    go No q = omega arith
+    go : (d : Option ℕ) → d ≡ lay_answer text used (key_text (meant_key key raw)) → length_of d ≤ length raw
+    go (Some n) q = omega (arith, key-le key raw, (lay_yes text used (key_text (meant_key key raw)) q refl).0)
+    go None q = omega arith
 
-pub leaf_laid-le : (text : List ℕ) (used : ℕ) (kind : LeafKind) (raw : List ℕ) {d : Decoded} {len : ℕ}
-    → d ≡ lay_answer text used (leaf_text (leaf_of kind raw)) → d ≡ Yes len → len ≤ length raw
+pub leaf_laid-le : (text : List ℕ) (used : ℕ) (kind : LeafKind) (raw : List ℕ) {d : Option ℕ} {len : ℕ}
+    → d ≡ lay_answer text used (leaf_text (leaf_of kind raw)) → d ≡ Some len → len ≤ length raw
 leaf_laid-le text used kind raw e q = omega (arith, leaf_le kind raw, (lay_yes text used (leaf_text (leaf_of kind raw)) e q).0)
 
-pub leaf_laid_len : (text : List ℕ) (used : ℕ) (kind : LeafKind) (raw : List ℕ) (d : Decoded)
+pub leaf_laid_len : (text : List ℕ) (used : ℕ) (kind : LeafKind) (raw : List ℕ) (d : Option ℕ)
     → d ≡ lay_answer text used (leaf_text (leaf_of kind raw)) → length_of d ≤ length raw
-leaf_laid_len text used kind raw (Yes len) e = leaf_laid-le text used kind raw e refl
-leaf_laid_len text used kind raw No e = omega arith
+leaf_laid_len text used kind raw (Some len) e = leaf_laid-le text used kind raw e refl
+leaf_laid_len text used kind raw None e = omega arith
 
 -- A rule that adds at most two records and b bytes.
 abbrev pub Little : ℕ → {A : Type 0} → Used → Made A → Type 0
@@ -111,24 +109,24 @@ pub append-little : (env : Environment) (x : Leaf) (l : Row) (v : Value) (u : Us
 append-little env x = append_obeys (adding (length (leaf_text x)) env x (omega arith))
 
 -- Of a command that made something.
-pub made_modest : (here : Here) (k : ℕ) {there : Here} {r : Performed} → AddsAtMost here k r → r ≡ MadeHere there
+pub made_modest : (here : Here) (k : ℕ) {there : Here} {r : Result Here Refusal} → AddsAtMost here k r → r ≡ Ok there
     → (there.records ≤ here.records + 2) × (there.bytes ≤ here.bytes + k)
-made_modest here k m e = subst (λ (y : Performed). AddsAtMost here k y) e m
+made_modest here k m e = subst (λ (y : Result Here Refusal). AddsAtMost here k y) e m
 
 -- A function that does as such a rule is modest.
 module _ {ws text ws' text' : List ℕ} {here : Here} (b : ℕ) (rule : Environment → List Key → Rule Node) (to : List Key → List Key)
     (little : (env : Environment) (p : List Key) (v : Node) (u : Used) → Little b u (rule env p v u)) where
-  modest : {r : Performed} → SomeStoredAt ws text here → Performs ws text ws' text' here rule to r → AddsAtMost here b r
+  modest : {r : Result Here Refusal} → SomeStoredAt ws text here → Performs ws text ws' text' here rule to r → AddsAtMost here b r
   modest {r} s d = go (d env s.path s.tree s.laid s.stored) (little env s.path s.tree (used_by here s.laid))
     where
       env : Environment
       env = lending (lent_by ws text)
 
-      go : {r : Performed} {m : Made Node} → After env ws' text' (to s.path) r m → Little b (used_by here s.laid) m → AddsAtMost here b r
+      go : {r : Result Here Refusal} {m : Made Node} → After env ws' text' (to s.path) r m → Little b (used_by here s.laid) m → AddsAtMost here b r
       go (stood u st) (gives q) = (omega (arith, q.0), omega (arith, q.1, st.stores.fill, s.stored.stores.fill))
       go stopped q = tt
 
-module _ {ws text ws' text' : List ℕ} {here : Here} {r : Performed} (s : SomeStoredAt ws text here) where
+module _ {ws text ws' text' : List ℕ} {here : Here} {r : Result Here Refusal} (s : SomeStoredAt ws text here) where
   pub enter_modest : (key : KeyKind) (raw : List ℕ) → Performs ws text ws' text' here (enters (meant_key key raw)) (further (meant_key key raw)) r
       → AddsAtMost here (length raw) r
   enter_modest key raw d =

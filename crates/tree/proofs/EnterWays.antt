@@ -1,4 +1,5 @@
 -- The ways through `enter`: the key is found, or a new child is put in.
+use Rattle.std.specs.Prelude.{Option, Some, None, Result, Ok, Err}
 use mathlib.Core.Path.{◌≡◌, refl, ap, sym, ◌∙◌, subst}
 use mathlib.Core.Bool.{Bool, true, false, cond}
 use mathlib.Core.List.{List, [], ◌∷◌, ◌++◌, append_assoc}
@@ -10,12 +11,10 @@ use lib.Dec.{leb, eqb}
 use borrow.Author.Tests.{leb-true, leb-false, ne_eqb}
 use Rattle.row.specs.Row.{record_width, kind_word, uninitialized_kind, map_kind}
 use Rattle.decode.specs.Decoding.{decoded}
-use Rattle.decode.specs.declared.Decoded.{Decoded}
-use Rattle.decode.specs.declared.Decoded.TheVariants.{Yes, No}
 use Rattle.decode.specs.Shown.{length_of}
 use Rattle.key.specs.Keys.{Key, int, str}
 use Rattle.key.specs.declared.KeyKind.{KeyKind}
-use Rattle.key.specs.declared.KeyKind.TheVariants.{None, Int, String}
+use Rattle.key.specs.declared.KeyKind.TheVariants.{None as NoKey, Int, String}
 use Rattle.records.specs.declared.siblings.Position.{Position}
 use Rattle.records.specs.declared.siblings.Position.TheVariants.{Found, Between}
 use Rattle.finding.specs.declared.Walk.{Walk}
@@ -46,9 +45,8 @@ use Rattle.reading.specs.Scanning.{enter}
 use Rattle.reading.specs.Running.{perform}
 use Rattle.reading.proofs.Adds.{perform_adds}
 use Rattle.reading.proofs.Shaped.{perform-shaped}
+use Rattle.refusals.specs.declared.Refusal.{Refusal}
 use Rattle.tree.specs.declared.Here.{Here}
-use Rattle.tree.specs.declared.Performed.{Performed}
-use Rattle.tree.specs.declared.Performed.TheVariants.{Made as MadeHere, Refused}
 use Rattle.tree.specs.Nodes.{label_words, record_of, nodes, rooted}
 use Rattle.tree.specs.Needing.{map_answer, becomes}
 use Rattle.tree.specs.Laying.{laid, LiesBehind, lies, lacks}
@@ -74,7 +72,7 @@ key-words : (key : KeyKind) (raw : List ℕ) (o : ℕ)
     → new_key_words key o (length (key_text (meant_key key raw))) ≡ label_words (label_at (meant_key key raw) o)
 unfolding meant_key
 key-words (Int i) raw o = refl
-key-words None raw o = string-words (decoded raw) o
+key-words NoKey raw o = string-words (decoded raw) o
 key-words String raw o = string-words (decoded raw) o
 
 key-inside : (k : Key) (text : List ℕ) (o : ℕ) → o + length (key_text k) ≤ length text → InText text (label_words (label_at k o))
@@ -101,15 +99,15 @@ module _ {ws text : List ℕ} {used filled : ℕ} {p : List Key} {v : Node} {t :
   is_vacant a b e = vacant (key_stands text k) k cs 0 a b (sought e) (turns text t st.free k cs st.full so_laid)
 
 -- A tree stands at the record once the map is needed there.
-pub map-stands : {ws text ws1 : List ℕ} {here there : Here} {r1 : Performed} → SomeStoredAt ws text here
+pub map-stands : {ws text ws1 : List ℕ} {here there : Here} {r1 : Result Here Refusal} → SomeStoredAt ws text here
     → (r1 ≡ map_answer here (word ws here.node kind_word)) × (ws1 ≡ becomes ws here.node map_kind) → Performs ws text ws1 text here needs_map stays r1
-    → r1 ≡ MadeHere there → SomeStoredAt ws1 text here
+    → r1 ≡ Ok there → SomeStoredAt ws1 text here
 map-stands {ws} {text} {ws1} s e d q =
     subst (λ (h : Here). SomeStoredAt ws1 text h) (needed_here map_need s e.0 e.1 q) (then_standing needs_map stays d s q)
 
 -- The record is a Map then, whose children are found with the aids.
-pub map-ready : {ws text ws1 text1 : List ℕ} {here there : Here} {r1 : Performed} → SomeStoredAt ws text here
-    → (r1 ≡ map_answer here (word ws here.node kind_word)) × (ws1 ≡ becomes ws here.node map_kind) → r1 ≡ MadeHere there
+pub map-ready : {ws text ws1 text1 : List ℕ} {here there : Here} {r1 : Result Here Refusal} → SomeStoredAt ws text here
+    → (r1 ≡ map_answer here (word ws here.node kind_word)) × (ws1 ≡ becomes ws here.node map_kind) → r1 ≡ Ok there
     → SomeStoredAt ws1 text1 here → MapReady ws1 text1 here
 map-ready {ws} {text} {ws1} {text1} {here} s e q stands =
     record {
@@ -123,12 +121,12 @@ map-ready {ws} {text} {ws1} {text1} {here} s e q stands =
     go (unserved x a f) = not_both (sym q ∙ a)
 
 -- After the map that is needed.
-module _ (ws text : List ℕ) (here : Here) (key : KeyKind) (raw : List ℕ) {ws1 : List ℕ} {r1 : Performed}
-    (er : r1 ≡ map_answer here (word ws here.node kind_word)) (ew : ws1 ≡ becomes ws here.node map_kind) {there : Here} (made_it : r1 ≡ MadeHere there) where
+module _ (ws text : List ℕ) (here : Here) (key : KeyKind) (raw : List ℕ) {ws1 : List ℕ} {r1 : Result Here Refusal}
+    (er : r1 ≡ map_answer here (word ws here.node kind_word)) (ew : ws1 ≡ becomes ws here.node map_kind) {there : Here} (made_it : r1 ≡ Ok there) where
   abbrev k : Key
   k = meant_key key raw
 
-  abbrev Promise : List ℕ → List ℕ → Performed → Type 0
+  abbrev Promise : List ℕ → List ℕ → Result Here Refusal → Type 0
   Promise ws' text' r = Performs ws text ws' text' here (enters (meant_key key raw)) (further (meant_key key raw)) r
 
   module _ {env : Environment} {p : List Key} {v : Node} {t : List ℕ} (s : StoredAt env ws text here p v t) where
@@ -149,11 +147,11 @@ module _ (ws text : List ℕ) (here : Here) (key : KeyKind) (raw : List ℕ) {ws
 
   -- The key has a child.
   enter_there : {y : Position} → y ≡ position ws1 text (meant_key key raw) here.node → {m : ℕ} → y ≡ Found m
-      → Promise ws1 text (MadeHere (record { records = here.records; bytes = here.bytes; node = m; aids = here.aids }))
+      → Promise ws1 text (Ok (record { records = here.records; bytes = here.bytes; node = m; aids = here.aids }))
   enter_there e {m} q env p v t s = go (serve map_need s.stores s.leads here er ew)
     where
-      answer : Performed
-      answer = MadeHere (record { records = here.records; bytes = here.bytes; node = m; aids = here.aids })
+      answer : Result Here Refusal
+      answer = Ok (record { records = here.records; bytes = here.bytes; node = m; aids = here.aids })
 
       go : Served map_need s.stores s.leads here er ew
           → After env ws1 text (p ++ (k ∷ [])) answer (perform env (enter p k) v (used_by here t))
@@ -183,7 +181,7 @@ module _ (ws text : List ℕ) (here : Here) (key : KeyKind) (raw : List ℕ) {ws
 
   pub enter-found : {ws2 : List ℕ} → Kept (free_from here.aids) ws1 ws2
       → {y : Position} → y ≡ position ws1 text (meant_key key raw) here.node → {m : ℕ} → y ≡ Found m
-      → Promise ws2 text (MadeHere (record { records = here.records; bytes = here.bytes; node = m; aids = here.aids }))
+      → Promise ws2 text (Ok (record { records = here.records; bytes = here.bytes; node = m; aids = here.aids }))
   enter-found keep e q = performs_kept (enters k) (further k) keep (enter_there e q)
 
   -- The key is new. Finding that left words that are the same but for those behind the aids.
@@ -272,9 +270,9 @@ module _ (ws text : List ℕ) (here : Here) (key : KeyKind) (raw : List ℕ) {ws
             (at_map s.leads cs st k) (omega arith) own_record (key_stands text k) gap.prev gap.cur (sought s.leads cs st k e)
             (key-inside k text (length t) (omega (arith, st.fill))))))
 
-        abbrev answer : Performed
+        abbrev answer : Result Here Refusal
         answer =
-            MadeHere
+            Ok
             (record {
               records = here.records + 1;
               bytes = here.bytes + length (key_text k);
@@ -301,18 +299,18 @@ module _ (ws text : List ℕ) (here : Here) (key : KeyKind) (raw : List ℕ) {ws
               aided = grows.aided;
             }))
 
-      by_way : {ws' : List ℕ} {d : Decoded} {r : Performed} → LiesBehind text here.bytes (key_text k) d → Entered ws2 here gap key ws' d r
+      by_way : {ws' : List ℕ} {d : Option ℕ} {r : Result Here Refusal} → LiesBehind text here.bytes (key_text k) d → Entered ws2 here gap key ws' d r
           → After env ws' text (p ++ (k ∷ [])) r (perform env (enter p k) v (used_by here t))
       by_way {ws'} lie (Entered.few l) =
-          subst (λ (m : Made Node). After env ws' text (p ++ (k ∷ [])) (Refused TooFewRecords) m)
+          subst (λ (m : Made Node). After env ws' text (p ++ (k ∷ [])) (Err TooFewRecords) m)
           (sym (charged ∙ charge-few env 1 (key_text k) new (used_by here t) (omega (arith, records-lent)))) (stopped)
       by_way {ws'} (lacks l) (Entered.little room) =
-          subst (λ (m : Made Node). After env ws' text (p ++ (k ∷ [])) (Refused TooLittleText) m)
+          subst (λ (m : Made Node). After env ws' text (p ++ (k ∷ [])) (Err TooLittleText) m)
           (sym (charged ∙ charge-little env 1 (key_text k) new (used_by here t) (omega (arith, records-lent)) (omega (arith, bytes-lent, st.fill)))) (stopped)
       by_way (lies fits lie) (Entered.entered room grows) = entered_new room fits lie grows
 
     pub enter_new_lem : {y : Position} → y ≡ position ws1 text (meant_key key raw) here.node → y ≡ Between gap.prev gap.cur
-        → {ws' : List ℕ} {d : Decoded} {r : Performed} → LiesBehind text here.bytes (key_text (meant_key key raw)) d
+        → {ws' : List ℕ} {d : Option ℕ} {r : Result Here Refusal} → LiesBehind text here.bytes (key_text (meant_key key raw)) d
         → Entered ws2 here gap key ws' d r → Promise ws' text r
     enter_new_lem e q {ws'} {d} {r} lie en env p v t s = go (serve map_need s.stores s.leads here er ew)
       where
@@ -348,28 +346,28 @@ module _ {ws text text1 : List ℕ} {here : Here} (bytes : List ℕ) (e : text1 
       some (at_other s.stored text1 (laid-stays text here.bytes bytes (stand_end s) e) (ap length e ∙ length-laid text here.bytes bytes (stand_end s)))
 
   -- What is done from there is done from before.
-  pub from-before : (rule : Environment → List Key → Rule Node) (to : List Key → List Key) {ws' text' : List ℕ} {r : Performed}
+  pub from-before : (rule : Environment → List Key → Rule Node) (to : List Key → List Key) {ws' text' : List ℕ} {r : Result Here Refusal}
       → Performs ws text1 ws' text' here rule to r → Performs ws text ws' text' here rule to r
   from-before rule to d env p v t s =
       d env p v t (at_other s text1 (laid-stays text here.bytes bytes (at-end s) e) (ap length e ∙ length-laid text here.bytes bytes (at-end s)))
 
 -- The ways through `enter_new`.
-module _ (ws : List ℕ) (here : Here) (gap : Walk) (key : KeyKind) (d : Decoded) {b : Bool} (e : b ≡ leb (here.records + 1) (record_count ws)) where
-  pub new_few : {ws' : List ℕ} → b ≡ false → Entered ws here gap key ws' d (Refused TooFewRecords)
+module _ (ws : List ℕ) (here : Here) (gap : Walk) (key : KeyKind) (d : Option ℕ) {b : Bool} (e : b ≡ leb (here.records + 1) (record_count ws)) where
+  pub new_few : {ws' : List ℕ} → b ≡ false → Entered ws here gap key ws' d (Err TooFewRecords)
   new_few q = Entered.few (leb-false (here.records + 1) (record_count ws) (sym e ∙ q))
 
   module _ (q : b ≡ true) where
     room : here.records + 1 ≤ record_count ws
     room = leb-true (here.records + 1) (record_count ws) (sym e ∙ q)
 
-    pub new_little : {ws' : List ℕ} → d ≡ No → Entered ws here gap key ws' d (Refused TooLittleText)
-    new_little {ws'} n = subst (λ (x : Decoded). Entered ws here gap key ws' x (Refused TooLittleText)) (sym n) (Entered.little room)
+    pub new_little : {ws' : List ℕ} → d ≡ None → Entered ws here gap key ws' d (Err TooLittleText)
+    new_little {ws'} n = subst (λ (x : Option ℕ). Entered ws here gap key ws' x (Err TooLittleText)) (sym n) (Entered.little room)
 
-    pub new_entered : {ws' : List ℕ} {len : ℕ} → d ≡ Yes len → {new : Record} → new ≡ new_record key here.bytes len
+    pub new_entered : {ws' : List ℕ} {len : ℕ} → d ≡ Some len → {new : Record} → new ≡ new_record key here.bytes len
         → Grown (inserted ws here.records here.node gap.prev gap.cur new) here.aids (here.records + 1) ws'
         → {aids : ℕ} → aids ≡ aids_for here.aids (here.records + 1)
         → Entered ws here gap key ws' d
-        (MadeHere (record { records = here.records + 1; bytes = here.bytes + len; node = here.records; aids = aids }))
+        (Ok (record { records = here.records + 1; bytes = here.bytes + len; node = here.records; aids = aids }))
     new_entered {ws'} {len} y {new} en grows {aids} ea = rw (y, ea) (Entered.entered room (rw en at grows))
 
 -- The words of a new key are in the text.
@@ -381,21 +379,21 @@ new_string-inside text o len l = go (eqb len 0)
     go false = l
 
 key-words-inside : (key : KeyKind) (text : List ℕ) (o len : ℕ) → o + len ≤ length text → InText text (new_key_words key o len)
-key-words-inside None text o len l = λ e. new_string-inside text o len l
+key-words-inside NoKey text o len l = λ e. new_string-inside text o len l
 key-words-inside (Int i) text o len l = λ e. absurd (e refl)
 key-words-inside String text o len l = λ e. new_string-inside text o len l
 
-pub new_inside : (key : KeyKind) (text : List ℕ) (o : ℕ) {len : ℕ} {d : Decoded} → o + length_of d ≤ length text → d ≡ Yes len
+pub new_inside : (key : KeyKind) (text : List ℕ) (o : ℕ) {len : ℕ} {d : Option ℕ} → o + length_of d ≤ length text → d ≡ Some len
     → {new : Record} → new ≡ new_record key o len → InText text new.key
 new_inside key text o {len} l q {new} e =
-    subst (λ (r : Record). InText text r.key) (sym e) (key-words-inside key text o len (subst (λ (x : Decoded). o + length_of x ≤ length text) q l))
+    subst (λ (r : Record). InText text r.key) (sym e) (key-words-inside key text o len (subst (λ (x : Option ℕ). o + length_of x ≤ length text) q l))
 
 -- A laid key ends in the text.
-pub laid-inside : {text : List ℕ} {used : ℕ} {bytes : List ℕ} {d : Decoded} → used ≤ length text → LiesBehind text used bytes d
+pub laid-inside : {text : List ℕ} {used : ℕ} {bytes : List ℕ} {d : Option ℕ} → used ≤ length text → LiesBehind text used bytes d
     → used + length_of d ≤ length text
 laid-inside l (lies h e) = h
 laid-inside l (lacks h) = omega arith
 
 -- The length of a laid key counts.
-pub laid-countable : (here : Here) {len : ℕ} {d : Decoded} → Countable here 2 (length_of d) → d ≡ Yes len → here.bytes + len < 2 ^ 32
-laid-countable here c e = subst (λ (x : Decoded). here.bytes + length_of x < 2 ^ 32) e c.1
+pub laid-countable : (here : Here) {len : ℕ} {d : Option ℕ} → Countable here 2 (length_of d) → d ≡ Some len → here.bytes + len < 2 ^ 32
+laid-countable here c e = subst (λ (x : Option ℕ). here.bytes + length_of x < 2 ^ 32) e c.1

@@ -1,4 +1,5 @@
 -- Where only words behind those of the aids are written, the tree stands there still.
+use Rattle.std.specs.Prelude.{Ok}
 use mathlib.Core.Path.{◌≡◌, refl, ◌∙◌}
 use mathlib.Core.List.{List}
 use Prim.Native.Nat.{ℕ, ◌<◌}
@@ -12,7 +13,6 @@ use Rattle.finding.proofs.Keeping.{holds_kept, position-kept, aided-kept}
 use Rattle.reading.specs.Values.{Node}
 use Rattle.reading.specs.Charging.{Environment, Made, Rule}
 use Rattle.tree.specs.declared.Here.{Here}
-use Rattle.tree.specs.declared.Performed.TheVariants.{Made as MadeHere}
 use Rattle.tree.specs.Stored.{Stores, StoredAt}
 use Rattle.tree.specs.Commands.{After, stood, Performs}
 use Rattle.tree.proofs.StoredTrees.{same-lent}
@@ -48,9 +48,9 @@ stored-kept {env} {ws} {ws'} {text} k s =
 
 -- Then what a command leaves stands there too.
 pub performs_kept : {ws text ws' ws'' text' : List ℕ} {here there : Here} (rule : Environment → List Key → Rule Node) (to : List Key → List Key)
-    → Kept (free_from there.aids) ws' ws'' → Performs ws text ws' text' here rule to (MadeHere there)
-    → Performs ws text ws'' text' here rule to (MadeHere there)
+    → Kept (free_from there.aids) ws' ws'' → Performs ws text ws' text' here rule to (Ok there)
+    → Performs ws text ws'' text' here rule to (Ok there)
 performs_kept {ws} {text} {ws'} {ws''} {text'} {here} {there} rule to k d env path tree laid s = go (d env path tree laid s)
   where
-    go : {m : Made Node} → After env ws' text' (to path) (MadeHere there) m → After env ws'' text' (to path) (MadeHere there) m
+    go : {m : Made Node} → After env ws' text' (to path) (Ok there) m → After env ws'' text' (to path) (Ok there) m
     go (stood e h) = stood e (stored-kept k h)

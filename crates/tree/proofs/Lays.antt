@@ -1,4 +1,5 @@
 -- Text laid behind what is used.
+use Rattle.std.specs.Prelude.{Option, Some, None}
 use mathlib.Core.Path.{◌≡◌, refl, ap, sym, ◌∙◌, subst}
 use mathlib.Core.Bool.{true, false, cond}
 use mathlib.Core.List.{List, [], ◌++◌, append_assoc}
@@ -8,13 +9,10 @@ use native.Mathlib.Decide.{dec_le}
 use lib.ListN.{length, take, drop, length-append, length-drop, take-append-drop}
 use lib.Seq.{take_at, drop_at, length-take-le, drop-drop, take-append_seam}
 use borrow.Author.Tests.{le-leb, lt-leb}
-use Rattle.decode.specs.Decoding.{decoded, fits_in, answer_of, answer, written}
-use Rattle.decode.specs.declared.Decoded.{Decoded}
-use Rattle.decode.specs.declared.Decoded.TheVariants.{Yes, No}
-use Rattle.decode.proofs.Loops.{told}
+use Rattle.decode.specs.Decoding.{decoded, answer, written}
 use Rattle.laws.proofs.Cases.{true-false}
 use Rattle.key.specs.declared.KeyKind.{KeyKind}
-use Rattle.key.specs.declared.KeyKind.TheVariants.{None, Int, String}
+use Rattle.key.specs.declared.KeyKind.TheVariants.{None as NoKey, Int, String}
 use Rattle.records.specs.Keys.{meant_key, of_int}
 use Rattle.reading.specs.Adding.{key_text}
 use Rattle.tree.specs.Laying.{lay_answer, laid, LiesBehind, lies, lacks}
@@ -22,32 +20,32 @@ use Rattle.tree.specs.Laying.{lay_answer, laid, LiesBehind, lies, lacks}
 -- By whether the bytes fit.
 module _ (text : List ℕ) (used : ℕ) (bytes : List ℕ) where
   module _ (h : used + length bytes ≤ length text) where
-    pub answer-yes : lay_answer text used bytes ≡ Yes (length bytes)
+    pub answer-yes : lay_answer text used bytes ≡ Some (length bytes)
     answer-yes = simp (le-leb (used + length bytes) (length text) h)
 
     pub laid-fits : laid text used bytes ≡ take used text ++ (bytes ++ drop (used + length bytes) text)
     laid-fits = simp (le-leb (used + length bytes) (length text) h)
 
   module _ (h : length text < used + length bytes) where
-    answer-no : lay_answer text used bytes ≡ No
+    answer-no : lay_answer text used bytes ≡ None
     answer-no = simp (lt-leb (used + length bytes) (length text) h)
 
     pub laid_short : laid text used bytes ≡ text
     laid_short = simp (lt-leb (used + length bytes) (length text) h)
 
   -- What an answer says.
-  pub lay_yes : {d : Decoded} {n : ℕ} → d ≡ lay_answer text used bytes → d ≡ Yes n → (n ≡ length bytes) × (used + length bytes ≤ length text)
+  pub lay_yes : {d : Option ℕ} {n : ℕ} → d ≡ lay_answer text used bytes → d ≡ Some n → (n ≡ length bytes) × (used + length bytes ≤ length text)
   lay_yes {d} {n} e q = go (dec_le (used + length bytes) (length text))
     where
       go : Dec (used + length bytes ≤ length text) → (n ≡ length bytes) × (used + length bytes ≤ length text)
-      go (yes h) = let f : Yes n ≡ Yes (length bytes) = sym q ∙ e ∙ answer-yes h in let g : n ≡ length bytes = cc in (g, h)
-      go (no h) = let f : Yes n ≡ No = sym q ∙ e ∙ answer-no (omega arith) in let z : ◌≡◌ {A = ℕ} 0 1 = cc in absurd (omega arith)
+      go (yes h) = let f : Some n ≡ Some (length bytes) = sym q ∙ e ∙ answer-yes h in let g : n ≡ length bytes = cc in (g, h)
+      go (no h) = let f : Some n ≡ None = sym q ∙ e ∙ answer-no (omega arith) in let z : ◌≡◌ {A = ℕ} 0 1 = cc in absurd (omega arith)
 
-  pub lay_no : {d : Decoded} → d ≡ lay_answer text used bytes → d ≡ No → length text < used + length bytes
+  pub lay_no : {d : Option ℕ} → d ≡ lay_answer text used bytes → d ≡ None → length text < used + length bytes
   lay_no {d} e q = go (dec_le (used + length bytes) (length text))
     where
       go : Dec (used + length bytes ≤ length text) → length text < used + length bytes
-      go (yes h) = let f : No ≡ Yes (length bytes) = sym q ∙ e ∙ answer-yes h in let z : ◌≡◌ {A = ℕ} 0 1 = cc in absurd (omega arith)
+      go (yes h) = let f : None ≡ Some (length bytes) = sym q ∙ e ∙ answer-yes h in let z : ◌≡◌ {A = ℕ} 0 1 = cc in absurd (omega arith)
       go (no h) = omega arith
 
   pub length-laid : used ≤ length text → length (laid text used bytes) ≡ length text
@@ -64,7 +62,7 @@ module _ (text : List ℕ) (used : ℕ) (l : used ≤ length text) where
   none-fits : used + length {A = ℕ} [] ≤ length text
   none-fits = omega arith
 
-  pub none-answer : Yes 0 ≡ lay_answer text used []
+  pub none-answer : Some 0 ≡ lay_answer text used []
   none-answer = sym (answer-yes text used [] none-fits)
 
   pub none-laid : text ≡ laid text used []
@@ -74,11 +72,10 @@ module _ (text : List ℕ) (used : ℕ) (l : used ≤ length text) where
 
 -- What decoding into the tail answers and leaves.
 module _ (text raw : List ℕ) (used : ℕ) (l : used ≤ length text) where
-  pub decode_answer : (d : Decoded) → answer_of d ≡ answer raw (drop used text) → d ≡ lay_answer text used (decoded raw)
-  decode_answer d e = told raw (drop used text) d e ∙ go (dec_le (used + length (decoded raw)) (length text))
+  pub decode_answer : answer raw (drop used text) ≡ lay_answer text used (decoded raw)
+  decode_answer = go (dec_le (used + length (decoded raw)) (length text))
     where
-      go : Dec (used + length (decoded raw) ≤ length text)
-          → cond (fits_in raw (drop used text)) (Yes (length (decoded raw))) No ≡ lay_answer text used (decoded raw)
+      go : Dec (used + length (decoded raw) ≤ length text) → answer raw (drop used text) ≡ lay_answer text used (decoded raw)
       go (yes h) =
           rw (answer-yes text used (decoded raw) h)
           (simp (le-leb (length (decoded raw)) (length (drop used text)) (omega (arith, length-drop used text))))
@@ -116,13 +113,13 @@ module _ {text : List ℕ} (t free bytes : List ℕ) {filled : ℕ} (e : text �
 -- By the kind of a key: an Int has no text, and another's is what the segment decodes to.
 pub int-text : (key : KeyKind) (raw : List ℕ) → of_int key ≡ true → key_text (meant_key key raw) ≡ []
 unfolding meant_key
-int-text None raw e = true-false (sym e)
+int-text NoKey raw e = true-false (sym e)
 int-text (Int i) raw e = refl
 int-text String raw e = true-false (sym e)
 
 pub string-text : (key : KeyKind) (raw : List ℕ) → of_int key ≡ false → key_text (meant_key key raw) ≡ decoded raw
 unfolding meant_key
-string-text None raw e = refl
+string-text NoKey raw e = refl
 string-text (Int i) raw e = true-false e
 string-text String raw e = refl
 
@@ -137,7 +134,7 @@ module _ (text : List ℕ) (used : ℕ) (bytes : List ℕ) (l : used ≤ length 
           ∙ take_at (take used text) (bytes ++ drop (used + length bytes) text) used (length-take-le used text l)
       go (no h) = ap (take used) (f ∙ laid_short text used bytes (omega arith))
 
-  pub laid-behind : {d : Decoded} → d ≡ lay_answer text used bytes → LiesBehind text' used bytes d
+  pub laid-behind : {d : Option ℕ} → d ≡ lay_answer text used bytes → LiesBehind text' used bytes d
   laid-behind {d} e = go (dec_le (used + length bytes) (length text))
     where
       long : length text' ≡ length text
@@ -148,7 +145,7 @@ module _ (text : List ℕ) (used : ℕ) (bytes : List ℕ) (l : used ≤ length 
           let tail : drop used text' ≡ bytes ++ drop (used + length bytes) text =
           ap (drop used) (f ∙ laid-fits text used bytes h)
           ∙ drop_at (take used text) (bytes ++ drop (used + length bytes) text) used (length-take-le used text l) in
-          subst (λ (a : Decoded). LiesBehind text' used bytes a) (sym (e ∙ answer-yes text used bytes h))
+          subst (λ (a : Option ℕ). LiesBehind text' used bytes a) (sym (e ∙ answer-yes text used bytes h))
           (lies (omega (arith, long)) (ap (take (length bytes)) tail ∙ take-append_seam bytes (drop (used + length bytes) text)))
       go (no h) =
-          subst (λ (a : Decoded). LiesBehind text' used bytes a) (sym (e ∙ answer-no text used bytes (omega arith))) (lacks (omega (arith, long)))
+          subst (λ (a : Option ℕ). LiesBehind text' used bytes a) (sym (e ∙ answer-no text used bytes (omega arith))) (lacks (omega (arith, long)))

@@ -1,4 +1,5 @@
 -- A map or a sequence needed at the record that a path leads to: one law for both.
+use Rattle.std.specs.Prelude.{Result, Ok, Err}
 use mathlib.Core.Path.{◌≡◌, refl, ap, ap₂, sym, ◌∙◌, subst}
 use mathlib.Core.Logic.{◌≢◌}
 use mathlib.Core.Bool.{Bool, true, false, cond}
@@ -35,29 +36,27 @@ use Rattle.reading.proofs.Results.{Each, All}
 use Rattle.reading.proofs.Adds.{Adds, perform_adds}
 use Rattle.reading.proofs.Shaped.{perform-shaped}
 use Rattle.tree.specs.declared.Here.{Here}
-use Rattle.tree.specs.declared.Performed.{Performed}
-use Rattle.tree.specs.declared.Performed.TheVariants.{Made as MadeHere, Refused}
 use Rattle.tree.specs.Nodes.{label_words, value_words, record_of, below, nodes, rooted}
 use Rattle.tree.specs.Needing.{map_answer, sequence_answer, becomes}
 use Rattle.tree.specs.Stored.{Stores, Leads, put, used_by, SomeStoredAt}
-use Rattle.tree.specs.Commands.{After, stood, stopped, Performs, along, stays}
+use Rattle.tree.specs.Commands.{After, stood, stopped, Performs, needs_map, needs_sequence, along, stays}
 use Rattle.tree.proofs.Paths.{changed}
 use Rattle.tree.proofs.StoredTrees.{same-lent, at-node, at-kind, at-used, some_stored}
 use Rattle.tree.proofs.Chained.{not_both}
 
 -- What a need makes of a value, its children, and what the answer is for its kind.
-pub data Met (wrap : Forest → Value) (needed : Value → Used → Made Forest) (answer : Here → ℕ → Performed) (here : Here) : Value → Type 0 where
-  turns : answer here uninitialized_kind ≡ MadeHere here → ((u : Used) → needed uninitialized u ≡ made none u)
+pub data Met (wrap : Forest → Value) (needed : Value → Used → Made Forest) (answer : Here → ℕ → Result Here Refusal) (here : Here) : Value → Type 0 where
+  turns : answer here uninitialized_kind ≡ Ok here → ((u : Used) → needed uninitialized u ≡ made none u)
       → Met wrap needed answer here uninitialized
-  serves : {v : Value} (cs : Forest) → v ≡ wrap cs → (kind v ≡ uninitialized_kind → ⊥) → answer here (kind v) ≡ MadeHere here
+  serves : {v : Value} (cs : Forest) → v ≡ wrap cs → (kind v ≡ uninitialized_kind → ⊥) → answer here (kind v) ≡ Ok here
       → ((u : Used) → needed v u ≡ made cs u) → Met wrap needed answer here v
-  refuses : {v : Value} (x : Refusal) → answer here (kind v) ≡ Refused x
+  refuses : {v : Value} (x : Refusal) → answer here (kind v) ≡ Err x
       → ((u : Used) → needed v u ≡ refused x) → Met wrap needed answer here v
 
 pub record Need : Type 0 where
   pub wrap : Forest → Value
   pub needed : Value → Used → Made Forest
-  pub answer : Here → ℕ → Performed
+  pub answer : Here → ℕ → Result Here Refusal
   pub of_kind : ℕ
   pub words : (cs : Forest) → value_words (wrap cs) ≡ childless of_kind
   pub under : (cs : Forest) → below (wrap cs) ≡ nodes cs
@@ -101,16 +100,16 @@ module _ (need : Need) where
   rule l v u = over (wrap_at l) (need.needed v u)
 
   module _ {ws text : List ℕ} {used filled : ℕ} {p : List Key} {v : Node} {t : List ℕ} {n : ℕ}
-      (k : Stores ws text used filled v t) (i : Leads p v n) (here : Here) {ws' : List ℕ} {r : Performed}
+      (k : Stores ws text used filled v t) (i : Leads p v n) (here : Here) {ws' : List ℕ} {r : Result Here Refusal}
       (er : r ≡ need.answer here (word ws n kind_word)) (ew : ws' ≡ becomes ws n need.of_kind) where
     abbrev before : Used
     before = record { records = used; text = t }
 
     -- The words then hold the tree with the children held as is needed; or the need is refused.
     pub data Served : Type 0 where
-      served : (cs : Forest) → r ≡ MadeHere here → ((u : Used) → need.needed i.value u ≡ made cs u)
+      served : (cs : Forest) → r ≡ Ok here → ((u : Used) → need.needed i.value u ≡ made cs u)
           → Stores ws' text used filled (put i (need.wrap cs)) t → Served
-      unserved : (x : Refusal) → r ≡ Refused x → ((u : Used) → need.needed i.value u ≡ refused x) → Served
+      unserved : (x : Refusal) → r ≡ Err x → ((u : Used) → need.needed i.value u ≡ refused x) → Served
 
     rule_is : (m : Made Forest) → need.needed i.value before ≡ m → along p rule v before ≡ over i.back (over (wrap_at i.row) m)
     rule_is m e =
@@ -165,14 +164,14 @@ module _ (need : Need) where
             (subst (λ (y : Node). Holds ws text used (rooted y)) (i.whole ∙ ap (put i) (e ∙ w)) k.holds)))
         go e (refuses x a f) = unserved x (er ∙ ap (need.answer here) (kind_of e) ∙ a) (λ u. needed_of e (f u))
 
-  pub need_does : (ws : List ℕ) (here : Here) {ws' : List ℕ} {r : Performed} → r ≡ need.answer here (word ws here.node kind_word)
+  pub need_does : (ws : List ℕ) (here : Here) {ws' : List ℕ} {r : Result Here Refusal} → r ≡ need.answer here (word ws here.node kind_word)
       → ws' ≡ becomes ws here.node need.of_kind → (text : List ℕ) → Performs ws text ws' text here (λ env path. along path rule) stays r
   need_does ws here {ws'} {r} er ew text env p v t s = go (serve s.stores s.leads here er ew)
     where
       go : Served s.stores s.leads here er ew → After env ws' text p r (along p rule v (used_by here t))
       go (served cs a e q) =
           subst (λ (m : Made Node). After env ws' text p r m) (sym (rule_is s.stores s.leads here er ew (made cs (used_by here t)) (e (used_by here t))))
-          (subst (λ (y : Performed). After env ws' text p y (made (put s.leads (need.wrap cs)) (used_by here t))) (sym a)
+          (subst (λ (y : Result Here Refusal). After env ws' text p y (made (put s.leads (need.wrap cs)) (used_by here t))) (sym a)
           (stood refl
           (record {
             lent_is = s.lent_is ∙ same-lent ws text ws' text (ap length ew ∙ length-becomes ws here.node need.of_kind) refl;
@@ -184,15 +183,15 @@ module _ (need : Need) where
           })))
       go (unserved x a e) =
           subst (λ (m : Made Node). After env ws' text p r m) (sym (rule_is s.stores s.leads here er ew (refused x) (e (used_by here t))))
-          (subst (λ (y : Performed). After env ws' text p y (refused x)) (sym a) (stopped))
+          (subst (λ (y : Result Here Refusal). After env ws' text p y (refused x)) (sym a) (stopped))
 
   -- What is needed is answered where it was.
-  pub needed_here : {ws text : List ℕ} {here there : Here} {ws' : List ℕ} {r : Performed} → SomeStoredAt ws text here
-      → r ≡ need.answer here (word ws here.node kind_word) → ws' ≡ becomes ws here.node need.of_kind → r ≡ MadeHere there → there ≡ here
+  pub needed_here : {ws text : List ℕ} {here there : Here} {ws' : List ℕ} {r : Result Here Refusal} → SomeStoredAt ws text here
+      → r ≡ need.answer here (word ws here.node kind_word) → ws' ≡ becomes ws here.node need.of_kind → r ≡ Ok there → there ≡ here
   needed_here {ws} {text} {here} {there} {ws'} {r} s er ew m = go (serve s.stored.stores s.stored.leads here er ew)
     where
       go : Served s.stored.stores s.stored.leads here er ew → there ≡ here
-      go (served cs a e q) = let f : MadeHere there ≡ MadeHere here = sym m ∙ a in cc
+      go (served cs a e q) = let f : Ok there ≡ Ok here = sym m ∙ a in cc
       go (unserved x a e) = not_both (sym m ∙ a)
 
 -- The two needs. What is lent doesn't matter to them.
@@ -243,40 +242,12 @@ sequence_need =
       shapes = λ p. perform-shaped nothing (need_sequence p);
     }
 
--- The ways through `expect_map` and `expect_sequence`, by the kind kd of the record.
-module _ (ws : List ℕ) (here : Here) {kd : ℕ} (e : kd ≡ word ws here.node kind_word) where
-  module _ (need : Need) where
-    abbrev pub Promise : List ℕ → Performed → Type 0
-    Promise ws' r =
-        ((r ≡ need.answer here (word ws here.node kind_word)) × (ws' ≡ becomes ws here.node need.of_kind))
-        × ((text : List ℕ) → Performs ws text ws' text here (λ env path. along path (rule need)) stays r)
+-- What `expect_map` and `expect_sequence` do, by what they answer and leave.
+pub map_performs : (ws : List ℕ) (here : Here) {ws' : List ℕ} {r : Result Here Refusal} → r ≡ map_answer here (word ws here.node kind_word)
+    → ws' ≡ becomes ws here.node map_kind → (text : List ℕ) → Performs ws text ws' text here needs_map stays r
+map_performs = need_does map_need
 
-    promise : {ws' : List ℕ} {r : Performed} → r ≡ need.answer here (word ws here.node kind_word) → ws' ≡ becomes ws here.node need.of_kind
-        → Promise ws' r
-    promise p q = ((p, q), need_does need ws here p q)
-
-    answered : {k : ℕ} → kd ≡ k → {r : Performed} → r ≡ need.answer here k → r ≡ need.answer here (word ws here.node kind_word)
-    answered q f = f ∙ ap (need.answer here) (sym q ∙ e)
-
-    pub on_uninitialized : kd ≡ uninitialized_kind → {r : Performed} → r ≡ need.answer here uninitialized_kind
-        → {ws' : List ℕ} → ws' ≡ with_value ws here.node (childless need.of_kind) → Promise ws' r
-    on_uninitialized q f g =
-        promise (answered q f) (g ∙ sym (simp (eq-eqb (word ws here.node kind_word) uninitialized_kind (sym e ∙ q))))
-
-    module _ (h : kd ≢ uninitialized_kind) {r : Performed} where
-      pub on_other : r ≡ need.answer here (word ws here.node kind_word) → Promise ws r
-      on_other f = promise f (sym (simp (ne_eqb (word ws here.node kind_word) uninitialized_kind (λ z. h (e ∙ z)))))
-
-      pub on-kind : {k : ℕ} → kd ≡ k → r ≡ need.answer here k → Promise ws r
-      on-kind q f = on_other (answered q f)
-
-  is-not : {k : ℕ} → kd ≢ k → eqb (word ws here.node kind_word) k ≡ false
-  is-not {k} q = ne_eqb (word ws here.node kind_word) k (λ z. q (e ∙ z))
-
-  pub null_map : kd ≢ uninitialized_kind → kd ≢ map_kind → kd ≢ sequence_kind → kd ≢ string_kind
-      → Refused MapOnNull ≡ map_answer here (word ws here.node kind_word)
-  null_map a b c d = rw (is-not a, is-not b, is-not c, is-not d)
-
-  pub single-sequence : kd ≢ uninitialized_kind → kd ≢ sequence_kind → kd ≢ map_kind
-      → Refused SequenceOnSingle ≡ sequence_answer here (word ws here.node kind_word)
-  single-sequence a b c = rw (is-not a, is-not b, is-not c)
+pub sequence_performs : (ws : List ℕ) (here : Here) {ws' : List ℕ} {r : Result Here Refusal}
+    → r ≡ sequence_answer here (word ws here.node kind_word) → ws' ≡ becomes ws here.node sequence_kind → (text : List ℕ)
+    → Performs ws text ws' text here needs_sequence stays r
+sequence_performs = need_does sequence_need

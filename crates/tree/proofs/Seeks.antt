@@ -1,4 +1,5 @@
 -- What is looked for is the key that is meant, whether it is laid or not.
+use Rattle.std.specs.Prelude.{Option, Some}
 use mathlib.Core.Path.{◌≡◌, refl, ap, sym, ◌∙◌, subst}
 use mathlib.Core.Bool.{true, false}
 use mathlib.Core.List.{List}
@@ -12,11 +13,9 @@ use denote.Enum.Declared.{row, variants}
 use denote.Enum.Laws.{Fields, spellss, owed}
 use Rattle.key.specs.contracts.KeyKind.{the_type}
 use Rattle.key.proofs.KeyKind.TheLaws.{the_laws}
-use Rattle.decode.specs.declared.Decoded.{Decoded}
-use Rattle.decode.specs.declared.Decoded.TheVariants.{Yes}
 use Rattle.key.specs.Keys.{Key, int, str, max_int}
 use Rattle.key.specs.declared.KeyKind.{KeyKind}
-use Rattle.key.specs.declared.KeyKind.TheVariants.{None, Int, String}
+use Rattle.key.specs.declared.KeyKind.TheVariants.{None as NoKey, Int, String}
 use Rattle.row.specs.Words.{text_part}
 use Rattle.tags.specs.Tags.{string_tag, tag_of, text_of, IntFits, Sought}
 use Rattle.records.specs.Keys.{meant_key, sought_key, int_of}
@@ -31,7 +30,7 @@ use Rattle.tree.specs.Entering.{MapReady}
 
 meant_raw : (key : KeyKind) (raw : List ℕ) → sought_key key true raw ≡ meant_key key raw
 unfolding sought_key meant_key
-meant_raw None raw = refl
+meant_raw NoKey raw = refl
 meant_raw (Int i) raw = refl
 meant_raw String raw = refl
 
@@ -46,13 +45,13 @@ record Lain (text : List ℕ) (used : ℕ) (bytes : List ℕ) (len : ℕ) : Type
   inside : used + len ≤ length text
   is : text_part text used len ≡ bytes
 
-lain : {text : List ℕ} {used : ℕ} {bytes : List ℕ} {len : ℕ} {d : Decoded} → LiesBehind text used bytes d → d ≡ Yes len → Lain text used bytes len
+lain : {text : List ℕ} {used : ℕ} {bytes : List ℕ} {len : ℕ} {d : Option ℕ} → LiesBehind text used bytes d → d ≡ Some len → Lain text used bytes len
 lain {text} {used} {bytes} {len} (lies l e) q =
     let f : length bytes ≡ len = cc in
     record { inside = omega arith; is = subst (λ (n : ℕ). text_part text used n ≡ bytes) f e }
 lain (lacks l) q = absurd (let z : ◌≡◌ {A = ℕ} 0 1 = cc in omega arith)
 
-pub lain_inside : {text : List ℕ} {used : ℕ} {bytes : List ℕ} {len : ℕ} {d : Decoded} → LiesBehind text used bytes d → d ≡ Yes len
+pub lain_inside : {text : List ℕ} {used : ℕ} {bytes : List ℕ} {len : ℕ} {d : Option ℕ} → LiesBehind text used bytes d → d ≡ Some len
     → used + len ≤ length text
 lain_inside h q = (lain h q).inside
 
@@ -62,18 +61,18 @@ text_of_lem (str x) = refl
 
 meant_laid : (key : KeyKind) (raw name : List ℕ) → name ≡ key_text (meant_key key raw) → sought_key key false name ≡ meant_key key raw
 unfolding sought_key meant_key
-meant_laid None raw name e = ap str e
+meant_laid NoKey raw name e = ap str e
 meant_laid (Int i) raw name e = refl
 meant_laid String raw name e = ap str e
 
 meant_fits : (key : KeyKind) (raw : List ℕ) → int_of key ≤ max_int → IntFits (meant_key key raw)
 unfolding meant_key
-meant_fits None raw l = tt
+meant_fits NoKey raw l = tt
 meant_fits (Int i) raw l = l
 meant_fits String raw l = tt
 
-meant_sought : (key : KeyKind) (raw : List ℕ) → int_of key ≤ max_int → {text : List ℕ} {used len tag : ℕ} {d : Decoded}
-    → LiesBehind text used (key_text (meant_key key raw)) d → d ≡ Yes len → tag ≡ tag_of (sought_key key false (text_part text used len))
+meant_sought : (key : KeyKind) (raw : List ℕ) → int_of key ≤ max_int → {text : List ℕ} {used len tag : ℕ} {d : Option ℕ}
+    → LiesBehind text used (key_text (meant_key key raw)) d → d ≡ Some len → tag ≡ tag_of (sought_key key false (text_part text used len))
     → Sought (meant_key key raw) tag (text_part text used len)
 meant_sought key raw l {text} {used} {len} h q e =
     record {
@@ -83,7 +82,7 @@ meant_sought key raw l {text} {used} {len} h q e =
     }
 
 fields_fit : (key : KeyKind) → Fields (variants the_type) (spellss the_type.parts the_laws) (the_type.to key) → int_of key ≤ max_int
-fields_fit None f = omega arith
+fields_fit NoKey f = omega arith
 fields_fit (Int i) f = omega (arith, f.0.1)
 fields_fit String f = omega arith
 
@@ -96,8 +95,8 @@ abbrev pub taken : List ℕ → ℕ → ℕ → List ℕ
 taken text used len = text_part text used (used + len - used)
 
 -- The child touched last has the key that is laid.
-pub again-laid : (ws text : List ℕ) (here : Here) (key : KeyKind) (raw : List ℕ) {len : ℕ} {d : Decoded}
-    → LiesBehind text here.bytes (key_text (meant_key key raw)) d → d ≡ Yes len → {y : Position}
+pub again-laid : (ws text : List ℕ) (here : Here) (key : KeyKind) (raw : List ℕ) {len : ℕ} {d : Option ℕ}
+    → LiesBehind text here.bytes (key_text (meant_key key raw)) d → d ≡ Some len → {y : Position}
     → y ≡ position ws text (sought_key key false (taken text here.bytes len)) here.node → y ≡ position ws text (meant_key key raw) here.node
 again-laid ws text here key raw {len} h q e =
     let f : len ≡ here.bytes + len - here.bytes = omega arith in
@@ -105,8 +104,8 @@ again-laid ws text here key raw {len} h q e =
     e ∙ ap (λ (k : Key). position ws text k here.node) (meant_laid key raw (taken text here.bytes len) name)
 
 -- What finding a laid key asks and answers.
-module _ {ws text : List ℕ} {here : Here} (r : MapReady ws text here) (key : KeyKind) (raw : List ℕ) (fits : int_of key ≤ max_int) {len tag : ℕ} {d : Decoded}
-    (h : LiesBehind text here.bytes (key_text (meant_key key raw)) d) (q : d ≡ Yes len)
+module _ {ws text : List ℕ} {here : Here} (r : MapReady ws text here) (key : KeyKind) (raw : List ℕ) (fits : int_of key ≤ max_int) {len tag : ℕ} {d : Option ℕ}
+    (h : LiesBehind text here.bytes (key_text (meant_key key raw)) d) (q : d ≡ Some len)
     (e : tag ≡ tag_of (sought_key key false (text_part text here.bytes len))) where
   abbrev name : List ℕ
   name = taken text here.bytes len

@@ -1,9 +1,7 @@
 -- READING, 'The root' (a key entered), on the words and the text: a new child.
-use Rattle.std.specs.Prelude.{◌≡◌, cond, List, ℕ, ◌+◌, ◌≤◌, ◌<◌, eqb}
-use Rattle.decode.specs.declared.Decoded.{Decoded}
-use Rattle.decode.specs.declared.Decoded.TheVariants.{Yes, No}
+use Rattle.std.specs.Prelude.{◌≡◌, cond, List, ℕ, ◌+◌, ◌≤◌, ◌<◌, eqb, Option, Some, None, Result, Ok, Err}
 use Rattle.key.specs.declared.KeyKind.{KeyKind}
-use Rattle.key.specs.declared.KeyKind.TheVariants.{None, Int, String}
+use Rattle.key.specs.declared.KeyKind.TheVariants.{None as NoKey, Int, String}
 use Rattle.finding.specs.declared.Walk.{Walk}
 use Rattle.records.specs.declared.store.KeyWords.{KeyWords}
 use Rattle.records.specs.declared.store.Record.{Record}
@@ -13,16 +11,15 @@ use Rattle.records.specs.Records.{inserted}
 use Rattle.indexed.specs.Adding.{childless}
 use Rattle.finding.specs.Aids.{Ready, aids_for, Grown}
 use Rattle.refusals.specs.declared.Refusal.TheVariants.{TooFewRecords, TooLittleText}
+use Rattle.refusals.specs.declared.Refusal.{Refusal}
 use Rattle.tree.specs.declared.Here.{Here}
-use Rattle.tree.specs.declared.Performed.{Performed}
-use Rattle.tree.specs.declared.Performed.TheVariants.{Made, Refused}
 
 -- The words of a new key (READING, 'Records'). An empty String has no text, so its offset is 0.
 abbrev pub new_string_words : ℕ → ℕ → KeyWords
 new_string_words offset len = record { kind = string_key_kind; offset = cond (eqb len 0) 0 offset; len = len }
 
 abbrev pub new_key_words : KeyKind → ℕ → ℕ → KeyWords
-new_key_words None offset len = new_string_words offset len
+new_key_words NoKey offset len = new_string_words offset len
 new_key_words (Int i) offset len = record { kind = int_key_kind; offset = i; len = 0 }
 new_key_words String offset len = new_string_words offset len
 
@@ -39,15 +36,15 @@ pub record MapReady (ws text : List ℕ) (here : Here) : Type 0 where
 -- What entering a new key leaves and answers, by its three ways: too few records, too little text, or a child,
 -- Uninitialized, put in the gap, whose key's text is laid. Records come first: where both are short it is 14.
 pub data Entered (ws : List ℕ) (here : Here) (gap : Walk) (key : KeyKind) (ws' : List ℕ) :
-    Decoded → Performed → Type 0 where
-  few : {laid : Decoded} → record_count ws < here.records + 1
-      → Entered ws here gap key ws' laid (Refused TooFewRecords)
-  little : here.records + 1 ≤ record_count ws → Entered ws here gap key ws' No (Refused TooLittleText)
+    Option ℕ → Result Here Refusal → Type 0 where
+  few : {laid : Option ℕ} → record_count ws < here.records + 1
+      → Entered ws here gap key ws' laid (Err TooFewRecords)
+  little : here.records + 1 ≤ record_count ws → Entered ws here gap key ws' None (Err TooLittleText)
   entered : {len : ℕ} → here.records + 1 ≤ record_count ws
       → Grown (inserted ws here.records here.node gap.prev gap.cur (new_record key here.bytes len))
       here.aids (here.records + 1) ws'
-      → Entered ws here gap key ws' (Yes len)
-      (Made
+      → Entered ws here gap key ws' (Some len)
+      (Ok
       (record {
         records = here.records + 1;
         bytes = here.bytes + len;

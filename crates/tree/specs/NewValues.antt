@@ -1,11 +1,8 @@
 -- READING, 'Values': the words of a value that is added.
-use Rattle.std.specs.Prelude.{ℕ, ◌+◌}
-use Rattle.decode.specs.declared.Decoded.{Decoded}
-use Rattle.decode.specs.declared.Decoded.TheVariants.{Yes, No}
+use Rattle.std.specs.Prelude.{ℕ, ◌+◌, Option, Some, None, Result, Ok, Err}
 use Rattle.refusals.specs.declared.Refusal.TheVariants.{TooLittleText}
+use Rattle.refusals.specs.declared.Refusal.{Refusal}
 use Rattle.tree.specs.declared.Here.{Here}
-use Rattle.tree.specs.declared.Performed.{Performed}
-use Rattle.tree.specs.declared.Performed.TheVariants.{Made, Refused}
 use Rattle.finding.specs.Aids.{aids_for}
 use Rattle.records.specs.declared.store.ValueWords.{ValueWords}
 use Rattle.row.specs.Row.{string_kind, null_kind, no_value_kind}
@@ -20,8 +17,8 @@ new_value_words NoValue offset len = childless no_value_kind
 new_value_words String offset len = record { kind = string_kind; offset = offset; len = len }
 
 -- The answer where there were enough records, by that of laying the text: how the tree stands then, or a refusal.
-abbrev pub appended_at : Here → Decoded → ℕ → Performed
-appended_at here (Yes len) records =
-    Made
+abbrev pub appended_at : Here → Option ℕ → ℕ → Result Here Refusal
+appended_at here (Some len) records =
+    Ok
     (record { records = records; bytes = here.bytes + len; node = here.node; aids = aids_for here.aids records })
-appended_at here No records = Refused TooLittleText
+appended_at here None records = Err TooLittleText

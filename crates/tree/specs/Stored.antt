@@ -10,6 +10,7 @@ use Rattle.reading.specs.Adding.{at_path}
 use Rattle.reading.specs.Laid.{Laid}
 use Rattle.reading.specs.Shape.{Shaped}
 use Rattle.reading.specs.Reading.{lent_by, lending}
+use Rattle.aids.specs.declared.Among.{Among}
 use Rattle.tree.specs.declared.Here.{Here}
 use Rattle.tree.specs.Nodes.{record_of, below, rooted}
 
@@ -55,6 +56,10 @@ put leads w = leads.back (at leads.row w)
 -- What is used where a tree stands, with what is laid for it.
 abbrev pub used_by : Here → List ℕ → Used
 used_by here laid = record { records = here.records; text = laid }
+
+-- The record that a command is for, as the parent of a new child.
+abbrev pub among_of : Here → Among
+among_of here = record { parent = here.node; used = here.records; aids = here.aids }
 
 -- A tree stands in what is lent, with these counts, and the path leads to the record that a command is for. What the
 -- aids have is right for it.

@@ -6,14 +6,13 @@ ghost use Rattle.tree.specs.NewValues.{new_value_words, appended_at};
 ghost use Rattle.tree.specs.Stored.{SomeStoredAt};
 ghost use Rattle.tree.specs.Commands.{Performs, appends, stays, Countable, AddsAtMost};
 
-use crate::{Here, Performed, laying};
-use aids::Among;
-use decode::Decoded;
+use crate::{Here, laying};
 use indexed::appending;
 use indexed::appending::Appended;
 use reading::LeafKind;
 use records::store::ValueWords;
 use refusals::Refusal;
+use row::Kind;
 
 // The words of a value whose text, if it has any, is laid at an offset with a length.
 fn value_words(kind: LeafKind, offset: u32, len: u32) -> ValueWords
@@ -21,17 +20,17 @@ fn value_words(kind: LeafKind, offset: u32, len: u32) -> ValueWords
 {
     match kind {
         LeafKind::Null => ValueWords {
-            kind: row::NULL,
+            kind: Kind::Null.into(),
             offset: 0,
             len: 0,
         },
         LeafKind::NoValue => ValueWords {
-            kind: row::NO_VALUE,
+            kind: Kind::NoValue.into(),
             offset: 0,
             len: 0,
         },
         LeafKind::String => ValueWords {
-            kind: row::STRING,
+            kind: Kind::String.into(),
             offset,
             len,
         },
@@ -39,19 +38,17 @@ fn value_words(kind: LeafKind, offset: u32, len: u32) -> ValueWords
 }
 
 // The answer where there were enough records: how the tree stands then, or that the text doesn't fit.
-fn answer(here: Here, laid: Decoded, records: u32) -> Performed
+fn answer(here: Here, laid: Option<usize>, records: u32) -> Result<Here, Refusal>
     requires { here.bytes + length_of laid < 2 ^ 32 }
     ensures { result ≡ appended_at here laid records }
 {
-    match laid {
-        Decoded::Yes(len) => Performed::Made(Here {
-            records,
-            bytes: here.bytes + len as u32,
-            node: here.node,
-            aids: finding::aids_for(here.aids, records),
-        }),
-        Decoded::No => Performed::Refused(Refusal::TooLittleText),
-    }
+    let len = laid.ok_or(Refusal::TooLittleText)?;
+    Ok(Here {
+        records,
+        bytes: here.bytes + len as u32,
+        aids: finding::aids_for(here.aids, records),
+        ..here
+    })
 }
 
 // Adds a value at the record, by the rule of Adding. The text comes first: where it doesn't fit, the rule runs all the
@@ -63,7 +60,7 @@ pub fn append_value(
     here: Here,
     kind: LeafKind,
     value: &[u8],
-) -> Performed
+) -> Result<Here, Refusal>
     requires stored { SomeStoredAt words.old text.old here }
     requires countable { Countable here 2 (length value.now) }
     ensures performs { Performs words.old text.old words.new text.new
@@ -71,14 +68,9 @@ pub fn append_value(
     ensures adds { AddsAtMost here (length value.now) result }
 {
     let laid = laying::lay_value(kind, value, text, here.bytes as usize);
-    let new = value_words(kind, here.bytes, decode::answered_len(laid) as u32);
-    let among = Among {
-        parent: here.node,
-        used: here.records,
-        aids: here.aids,
-    };
-    match appending::add(words, text, among, new) {
+    let new = value_words(kind, here.bytes, laid.unwrap_or(0) as u32);
+    match appending::add(words, text, here.among(), new) {
         Appended::Used(records) => answer(here, laid, records),
-        Appended::TooFew => Performed::Refused(Refusal::TooFewRecords),
+        Appended::TooFew => Err(Refusal::TooFewRecords),
     }
 }

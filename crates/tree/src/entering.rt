@@ -7,13 +7,11 @@ ghost use Rattle.records.specs.Siblings.{position};
 ghost use Rattle.finding.specs.Aids.{Gap};
 ghost use Rattle.reading.specs.Adding.{key_text};
 ghost use Rattle.tree.specs.Laying.{LiesBehind};
-ghost use Rattle.tree.specs.Entering.{new_string_words, new_key_words, new_record, MapReady, Entered};
+ghost use Rattle.tree.specs.Entering.{new_key_words, new_record, MapReady, Entered};
 ghost use Rattle.tree.specs.Stored.{SomeStoredAt};
 ghost use Rattle.tree.specs.Commands.{Performs, enters, further, Countable, AddsAtMost};
 
-use crate::{Here, Performed, laying, needing};
-use aids::Among;
-use decode::Decoded;
+use crate::{Here, laying, needing};
 use finding::Walk;
 use indexed::growing;
 use key::KeyKind;
@@ -21,37 +19,24 @@ use records::siblings::Position;
 use records::store::{KeyWords, Record, ValueWords};
 use records::{keys, siblings};
 use refusals::Refusal;
+use row::Kind;
 
-// The words of a new String key, whose text is laid at an offset with a length: that of an empty one is 0.
-fn string_words(offset: u32, len: u32) -> KeyWords
-    ensures { result ≡ new_string_words offset len }
-{
-    if len == 0 {
-        return KeyWords {
-            kind: row::STRING_KEY,
-            offset: 0,
-            len: 0,
-        };
-    }
-    KeyWords {
-        kind: row::STRING_KEY,
-        offset,
-        len,
-    }
-}
-
-// The words of a new key whose text, if it has any, is laid at an offset with a length.
+// The words of a new key whose text, if it has any, is laid at an offset with a length: the offset of an empty one is
+// 0.
 fn key_words(key: KeyKind, offset: u32, len: u32) -> KeyWords
     ensures { result ≡ new_key_words key offset len }
 {
     match key {
         KeyKind::Int(int) => KeyWords {
-            kind: row::INT_KEY,
+            kind: row::KeyKind::Int.into(),
             offset: int,
             len: 0,
         },
-        KeyKind::None => string_words(offset, len),
-        KeyKind::String => string_words(offset, len),
+        KeyKind::None | KeyKind::String => KeyWords {
+            kind: row::KeyKind::String.into(),
+            offset: if len == 0 { 0 } else { offset },
+            len,
+        },
     }
 }
 
@@ -63,7 +48,7 @@ fn find_key(
     here: Here,
     key: KeyKind,
     raw: &[u8],
-    laid: Decoded,
+    laid: Option<usize>,
 ) -> Position
     requires ready { MapReady words.old text.now here }
     requires laid { LiesBehind text.now here.bytes (key_text (meant_key key raw.now)) laid }
@@ -71,23 +56,18 @@ fn find_key(
         here.node }
     ensures kept { Kept (free_from here.aids) words.old words.new }
 {
-    match laid {
-        Decoded::Yes(len) => {
-            let among = Among {
-                parent: here.node,
-                used: here.records,
-                aids: here.aids,
-            };
-            let start = here.bytes as usize;
-            let again = finding::find_again(words, text, among, key, &text[start..start + len]);
-            if again != 0 {
-                return Position::Found(again);
-            }
-            let tag = keys::tag_of(key, text, start, len);
-            finding::find(words, text, among, tag, &text[start..start + len])
-        }
-        Decoded::No => siblings::find(words, text, here.node, key, raw, true),
+    let Some(len) = laid else {
+        return siblings::find(words, text, here.node, key, raw, true);
+    };
+    let among = here.among();
+    let start = here.bytes as usize;
+    let name = &text[start..start + len];
+    let again = finding::find_again(words, text, among, key, name);
+    if again != 0 {
+        return Position::Found(again);
     }
+    let tag = keys::tag_of(key, text, start, len);
+    finding::find(words, text, among, tag, name)
 }
 
 // The record of a new child, Uninitialized, whose key's text, if it has any, is laid at an offset with a length.
@@ -97,7 +77,7 @@ fn new_record(key: KeyKind, offset: u32, len: u32) -> Record
     Record {
         key: key_words(key, offset, len),
         value: ValueWords {
-            kind: row::UNINITIALIZED,
+            kind: Kind::Uninitialized.into(),
             offset: 0,
             len: 0,
         },
@@ -112,62 +92,49 @@ fn enter_new(
     here: Here,
     gap: Walk,
     key: KeyKind,
-    laid: Decoded,
-) -> Performed
+    laid: Option<usize>,
+) -> Result<Here, Refusal>
     requires ready { MapReady words.old text.now here × Gap words.old here.node gap.prev gap.cur }
     requires countable { Countable here 2 (length_of laid) × (here.bytes + length_of laid ≤ length text.now) }
     ensures { Entered words.old here gap key words.new laid result }
 {
-    if row::has_room(words, here.records + 1) {
-        match laid {
-            Decoded::Yes(len) => {
-                let among = Among {
-                    parent: here.node,
-                    used: here.records,
-                    aids: here.aids,
-                };
-                let new = new_record(key, here.bytes, len as u32);
-                growing::insert_child(words, text, among, gap, new);
-                Performed::Made(Here {
-                    records: here.records + 1,
-                    bytes: here.bytes + len as u32,
-                    node: here.records,
-                    aids: finding::aids_for(here.aids, here.records + 1),
-                })
-            }
-            Decoded::No => Performed::Refused(Refusal::TooLittleText),
-        }
-    } else {
-        Performed::Refused(Refusal::TooFewRecords)
+    if !row::has_room(words, here.records + 1) {
+        return Err(Refusal::TooFewRecords);
     }
+    let len = laid.ok_or(Refusal::TooLittleText)?;
+    let new = new_record(key, here.bytes, len as u32);
+    growing::insert_child(words, text, here.among(), gap, new);
+    Ok(Here {
+        records: here.records + 1,
+        bytes: here.bytes + len as u32,
+        node: here.records,
+        aids: finding::aids_for(here.aids, here.records + 1),
+    })
 }
 
 // Enters a key in the map that is needed at the record: the child that has it, or a new one, Uninitialized. The key is
 // decoded once, into the free text, and found by what is shown of it there. A key that has a child already needs no
 // space, and is found however little text is left. After a refusal what the words and the text hold is free.
-pub fn enter(words: &mut [u32], text: &mut [u8], here: Here, key: KeyKind, raw: &[u8]) -> Performed
+pub fn enter(
+    words: &mut [u32],
+    text: &mut [u8],
+    here: Here,
+    key: KeyKind,
+    raw: &[u8],
+) -> Result<Here, Refusal>
     requires stored { SomeStoredAt words.old text.old here }
     requires countable { Countable here 2 (length raw.now) }
     ensures performs { Performs words.old text.old words.new text.new
         here (enters (meant_key key raw.now)) (further (meant_key key raw.now)) result }
     ensures adds { AddsAtMost here (length raw.now) result }
 {
-    match needing::expect_map(words, here) {
-        Performed::Made(_) => {
-            let laid = laying::lay_key(key, raw, text, here.bytes as usize);
-            match find_key(words, text, here, key, raw, laid) {
-                Position::Found(m) => Performed::Made(Here {
-                    records: here.records,
-                    bytes: here.bytes,
-                    node: m,
-                    aids: here.aids,
-                }),
-                Position::Between(prev, next) => {
-                    let gap = Walk { prev, cur: next };
-                    enter_new(words, text, here, gap, key, laid)
-                }
-            }
+    needing::expect_map(words, here)?;
+    let laid = laying::lay_key(key, raw, text, here.bytes as usize);
+    match find_key(words, text, here, key, raw, laid) {
+        Position::Found(node) => Ok(Here { node, ..here }),
+        Position::Between(prev, next) => {
+            let gap = Walk { prev, cur: next };
+            enter_new(words, text, here, gap, key, laid)
         }
-        Performed::Refused(refusal) => Performed::Refused(refusal),
     }
 }

@@ -5,12 +5,14 @@
 // refusals (refusals), the keys (key), their tags (tags), decoding (decode), the definitions (reading) and laws.
 #![tactic(auto)]
 
+ghost use Rattle.std.specs.Prelude.{◌≡◌};
+
 pub mod adding; // a value added
 pub mod entering; // a key entered
 mod laying; // text laid behind what is used
 pub mod needing; // a map or a sequence needed
 
-use refusals::Refusal;
+use aids::Among;
 
 // Where the tree stands: how many records and bytes of text it uses, the record that a command is for, and how many
 // records stand below the aids.
@@ -22,9 +24,17 @@ pub struct Here {
     pub aids: u32,
 }
 
-// The answer of a command, in the place of the source's `Result`: where the tree stands then, or a refusal.
-#[derive(Clone, Copy)]
-pub enum Performed {
-    Made(Here),
-    Refused(Refusal),
+impl Here {
+    ghost use Rattle.tree.specs.Stored.{among_of};
+
+    // The record that a command is for, as the parent of a new child.
+    fn among(self) -> Among
+        ensures { result ≡ among_of self }
+    {
+        Among {
+            parent: self.node,
+            used: self.records,
+            aids: self.aids,
+        }
+    }
 }

@@ -5,65 +5,58 @@ ghost use Rattle.row.specs.Words.{record_count, word};
 ghost use Rattle.tree.specs.Needing.{map_answer, sequence_answer, becomes};
 ghost use Rattle.tree.specs.Commands.{Performs, needs_map, needs_sequence, stays};
 
-use crate::{Here, Performed};
+use crate::Here;
 use records::store;
 use records::store::ValueWords;
 use refusals::Refusal;
+use row::Kind;
 
 // Needs a map at the record: a Map stays, Uninitialized is made one, any other kind is refused. Nothing else changes.
-pub fn expect_map(words: &mut [u32], here: Here) -> Performed
+pub fn expect_map(words: &mut [u32], here: Here) -> Result<Here, Refusal>
     requires { here.node < record_count words.old }
     ensures words { (result ≡ map_answer here (word words.old here.node kind_word))
         × (words.new ≡ becomes words.old here.node map_kind) }
     ensures performs { (text : List ℕ) → Performs words.old text words.new text here
         needs_map stays result }
 {
-    let kind = row::get_word(words, here.node, row::KIND);
-    if kind == row::UNINITIALIZED {
-        let map = ValueWords {
-            kind: row::MAP,
-            offset: 0,
-            len: 0,
-        };
-        store::set_value(words, here.node, map);
-        return Performed::Made(here);
+    match Kind::try_from(row::get_word(words, here.node, row::KIND)) {
+        Ok(Kind::Uninitialized) => {
+            let map = ValueWords {
+                kind: Kind::Map.into(),
+                offset: 0,
+                len: 0,
+            };
+            store::set_value(words, here.node, map);
+            Ok(here)
+        }
+        Ok(Kind::Map) => Ok(here),
+        Ok(Kind::Sequence) => Err(Refusal::MapOnSequence),
+        Ok(Kind::String) => Err(Refusal::MapOnString),
+        Ok(Kind::Null | Kind::NoValue) | Err(_) => Err(Refusal::MapOnNull),
     }
-    if kind == row::MAP {
-        return Performed::Made(here);
-    }
-    if kind == row::SEQUENCE {
-        return Performed::Refused(Refusal::MapOnSequence);
-    }
-    if kind == row::STRING {
-        return Performed::Refused(Refusal::MapOnString);
-    }
-    Performed::Refused(Refusal::MapOnNull)
 }
 
 // Needs a sequence at the record, for `[]`: a Sequence stays, Uninitialized is made one, any other kind is refused.
 // Nothing else changes.
-pub fn expect_sequence(words: &mut [u32], here: Here) -> Performed
+pub fn expect_sequence(words: &mut [u32], here: Here) -> Result<Here, Refusal>
     requires { here.node < record_count words.old }
     ensures words { (result ≡ sequence_answer here (word words.old here.node kind_word))
         × (words.new ≡ becomes words.old here.node sequence_kind) }
     ensures performs { (text : List ℕ) → Performs words.old text words.new text here
         needs_sequence stays result }
 {
-    let kind = row::get_word(words, here.node, row::KIND);
-    if kind == row::UNINITIALIZED {
-        let sequence = ValueWords {
-            kind: row::SEQUENCE,
-            offset: 0,
-            len: 0,
-        };
-        store::set_value(words, here.node, sequence);
-        return Performed::Made(here);
+    match Kind::try_from(row::get_word(words, here.node, row::KIND)) {
+        Ok(Kind::Uninitialized) => {
+            let sequence = ValueWords {
+                kind: Kind::Sequence.into(),
+                offset: 0,
+                len: 0,
+            };
+            store::set_value(words, here.node, sequence);
+            Ok(here)
+        }
+        Ok(Kind::Sequence) => Ok(here),
+        Ok(Kind::Map) => Err(Refusal::SequenceOnMap),
+        Ok(Kind::String | Kind::Null | Kind::NoValue) | Err(_) => Err(Refusal::SequenceOnSingle),
     }
-    if kind == row::SEQUENCE {
-        return Performed::Made(here);
-    }
-    if kind == row::MAP {
-        return Performed::Refused(Refusal::SequenceOnMap);
-    }
-    Performed::Refused(Refusal::SequenceOnSingle)
 }

@@ -13,26 +13,24 @@ use Rattle.tree.proofs.EnterWays.{laid-standing}
 use borrow.Author.Rules.{rules}
 use Rattle.tree.proofs.adding.append_value.Goals as goal
 
-pub lay_value-laid-requires : goal.lay_value-laid-requires
-lay_value-laid-requires c = stand_end c.requires.stored
-
-pub overflow_cast-answered_len : goal.overflow_cast-answered_len
-overflow_cast-answered_len c =
+pub overflow_cast-unwrap_or : goal.overflow_cast-unwrap_or
+overflow_cast-unwrap_or c =
     omega (
       arith,
-      c.answered_len.ensures,
+      c.unwrap_or.ensures,
       leaf_laid_len c.args.text.now c.args.here.bytes c.args.kind
           c.args.value.now c.lay_value-laid.result c.lay_value-laid.ensures.answer,
       c.requires.countable.1,
     )
 
-pub add-requires : goal.add-requires
-add-requires c =
-    record {
-      ready = ready-stored (laid-standing (leaf_text (leaf_of c.args.kind c.args.value.now)) c.lay_value-laid.ensures.output
-          c.requires.stored).stored;
-      inside = (stand_used c.requires.stored, c.requires.countable.0);
-    }
+pub add-requires-clause-ready : goal.add-requires-clause-ready
+add-requires-clause-ready c =
+    rw c.among.ensures
+    (ready-stored (laid-standing (leaf_text (leaf_of c.args.kind c.args.value.now)) c.lay_value-laid.ensures.output
+    c.requires.stored).stored)
+
+pub add-requires-clause-inside : goal.add-requires-clause-inside
+add-requires-clause-inside c = rw c.among.ensures (stand_used c.requires.stored, c.requires.countable.0)
 
 pub answer-requires : goal.answer-requires
 answer-requires c =
@@ -51,22 +49,18 @@ returns-in-Used c =
     c.value_words-new.result
     c.lay_value-laid.ensures.answer
     c.lay_value-laid.ensures.output
-    c.add.ensures
+    (rw c.among.ensures at c.add.ensures)
     (c.value_words-new.ensures ∙ ap
     (λ (n : ℕ). new_value_words c.args.kind
-    c.args.here.bytes n) c.answered_len.ensures) c.in-Used.is (search rules) in rw c.answer.ensures (record {
+    c.args.here.bytes n) c.unwrap_or.ensures) c.in-Used.is (search rules) in rw c.answer.ensures (record {
       performs = does;
       adds = append_modest
           c.requires.stored c.args.kind
           c.args.value.now does;
     })
 
-pub returns-in-TooFew : goal.returns-in-TooFew
-returns-in-TooFew c =
-    record {
-      performs = append_too_few c.args.words.now c.args.text.now c.args.here c.args.kind c.args.value.now
-          c.value_words-new.result c.lay_value-laid.ensures.answer c.lay_value-laid.ensures.output c.add.ensures
-          (c.value_words-new.ensures ∙ ap (λ (n : ℕ). new_value_words c.args.kind c.args.here.bytes n)
-          c.answered_len.ensures) c.in-TooFew.is;
-      adds = tt;
-    }
+pub returns-in-TooFew-clause-performs : goal.returns-in-TooFew-clause-performs
+returns-in-TooFew-clause-performs c =
+    append_too_few c.args.words.now c.args.text.now c.args.here c.args.kind c.args.value.now
+    c.value_words-new.result c.lay_value-laid.ensures.answer c.lay_value-laid.ensures.output (rw c.among.ensures at c.add.ensures)
+    (c.value_words-new.ensures ∙ ap (λ (n : ℕ). new_value_words c.args.kind c.args.here.bytes n) c.unwrap_or.ensures) c.in-TooFew.is

@@ -1,5 +1,6 @@
 -- The key is laid behind what is used, where the tree stands still; then by what finding it answers (EnterWays).
 use native.Mathlib.Omega.{arith}
+use Rattle.std.proofs.lemmas.Result.{err_from_is_err_and}
 use Rattle.records.specs.Keys.{meant_key}
 use Rattle.reading.specs.Adding.{key_text, enter_key}
 use Rattle.tree.specs.Commands.{needs_map, enters, along, stays, further}
@@ -15,17 +16,21 @@ pub expect_map-requires : goal.expect_map-requires
 expect_map-requires c =
     stand_low c.requires.stored
 
-pub lay_key-laid-requires : goal.lay_key-laid-requires
-lay_key-laid-requires c =
-    stand_end c.requires.stored
+pub returns-in_err-expect_map-clause-performs : goal.returns-in_err-expect_map-clause-performs
+returns-in_err-expect_map-clause-performs c =
+    let key = meant_key c.args.key c.args.raw.now in
+    let p = err_from_is_err_and c.from_residual.result c.from_residual.ensures.1 in
+    rw (p.1, p.2)
+    (stops needs_map stays (c.expect_map.ensures.performs c.args.text.now) (λ env path. along path (enter_key env key)) (enters key)
+    (λ env. enter_composed env key) (further key) c.in_err-expect_map.was)
 
 pub find_key-requires : goal.find_key-requires
 find_key-requires c =
     let text = key_text (meant_key c.args.key c.args.raw.now) in
     let stands = laid-standing text c.lay_key-laid.ensures.output
     (map-stands c.requires.stored c.expect_map.ensures.words (c.expect_map.ensures.performs c.args.text.now)
-    c.in-Made.is) in record {
-      ready = map-ready c.requires.stored c.expect_map.ensures.words c.in-Made.is stands;
+    c.in_ok-expect_map.was) in record {
+      ready = map-ready c.requires.stored c.expect_map.ensures.words c.in_ok-expect_map.was stands;
       laid = laid-behind c.args.text.now c.args.here.bytes text (stand_end c.requires.stored) c.lay_key-laid.ensures.output
           c.lay_key-laid.ensures.answer;
     }
@@ -35,8 +40,8 @@ enter_new-requires c =
     let key = meant_key c.args.key c.args.raw.now in
     let stands = laid-standing (key_text key) c.lay_key-laid.ensures.output
     (map-stands c.requires.stored c.expect_map.ensures.words (c.expect_map.ensures.performs c.args.text.now)
-    c.in-Made.is) in
-    let ready = map-ready c.requires.stored c.expect_map.ensures.words c.in-Made.is stands in record {
+    c.in_ok-expect_map.was) in
+    let ready = map-ready c.requires.stored c.expect_map.ensures.words c.in_ok-expect_map.was stands in record {
       ready = (
         ready-found c.find_key.ensures.kept ready,
         gap_found c.find_key.ensures.kept ready key c.find_key.ensures.position c.in-Between.is,
@@ -56,14 +61,14 @@ enter_new-requires c =
       );
     }
 
-pub returns-in-Found : goal.returns-in-Found
-returns-in-Found c =
+pub returns-in-Found-clause-performs : goal.returns-in-Found-clause-performs
+returns-in-Found-clause-performs c =
     let key = meant_key c.args.key c.args.raw.now in
-    let does = from-before (key_text key) c.lay_key-laid.ensures.output (enters key) (further key)
+    from-before (key_text key) c.lay_key-laid.ensures.output (enters key) (further key)
     (enter-found c.args.words.now c.lay_key-laid.new.text c.args.here c.args.key c.args.raw.now
     c.expect_map.ensures.words.0
-    c.expect_map.ensures.words.1 c.in-Made.is c.find_key.ensures.kept
-    c.find_key.ensures.position c.in-Found.is) in record { performs = does; adds = enter_modest c.requires.stored c.args.key c.args.raw.now does }
+    c.expect_map.ensures.words.1 c.in_ok-expect_map.was c.find_key.ensures.kept
+    c.find_key.ensures.position c.in-Found.is)
 
 pub returns-in-Between : goal.returns-in-Between
 returns-in-Between c =
@@ -71,16 +76,8 @@ returns-in-Between c =
     let does = from-before (key_text key) c.lay_key-laid.ensures.output (enters key) (further key)
     (enter_new_lem c.args.words.now c.lay_key-laid.new.text c.args.here c.args.key c.args.raw.now
     c.expect_map.ensures.words.0
-    c.expect_map.ensures.words.1 c.in-Made.is c.find_key.ensures.kept
+    c.expect_map.ensures.words.1 c.in_ok-expect_map.was c.find_key.ensures.kept
     c.find_key.ensures.position c.in-Between.is
     (laid-behind c.args.text.now c.args.here.bytes (key_text key) (stand_end c.requires.stored) c.lay_key-laid.ensures.output
     c.lay_key-laid.ensures.answer)
     c.enter_new.ensures) in record { performs = does; adds = enter_modest c.requires.stored c.args.key c.args.raw.now does }
-
-pub returns-in-Refused : goal.returns-in-Refused
-returns-in-Refused c =
-    let key = meant_key c.args.key c.args.raw.now in record {
-      performs = stops needs_map stays (c.expect_map.ensures.performs c.args.text.now) (λ env path. along path (enter_key env key)) (enters key)
-          (λ env. enter_composed env key) (further key) c.in-Refused.is;
-      adds = tt;
-    }
