@@ -7,11 +7,12 @@
 ghost use Rattle.std.specs.Prelude.{◌≡◌, ◌<◌, leb};
 ghost use Rattle.row.specs.Row.{record_width};
 ghost use Rattle.row.specs.Words.{record_count, word, with_word, text_part};
-ghost use Rattle.row.specs.Kinds.{IntKeyOf};
 
 pub use kind::{KeyKind, Kind, UnknownKind};
+pub use lent::Lent;
 
 mod kind; // the kinds of values and keys, and their numbers
+mod lent; // lent words and text, read together
 
 // A record's width in words.
 pub const WIDTH: usize = 8;
@@ -78,16 +79,6 @@ pub fn word_or_zero(words: &[u32], n: u32, w: usize) -> u32
         return words[i];
     }
     0
-}
-
-// The value of record n's key where it is an Int: for words that may be any.
-pub fn int_key(words: &[u32], n: u32) -> Option<u32>
-    ensures { IntKeyOf words.now n result }
-{
-    match KeyKind::try_from(word_or_zero(words, n, KEY_KIND)) {
-        Ok(KeyKind::Int) => Some(word_or_zero(words, n, KEY)),
-        _ => None,
-    }
 }
 
 // Makes x word w of record n. Nothing else changes.
