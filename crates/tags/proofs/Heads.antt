@@ -1,6 +1,12 @@
 -- Leading bytes as a number: its order is that of the bytes, and it is cut and put together by its digits, which are the bytes.
 use mathlib.Core.Path.{◌≡◌, refl, sym, ap, ◌∙◌}
 use mathlib.Core.List.{List, [], ◌∷◌}
+use Rattle.std.specs.Prelude.{reverse, fold}
+use Rattle.std.specs.Int.{from_be_bytes}
+use Rattle.std.specs.Array.{IsFirstChunk}
+use Rattle.std.proofs.Common.{w64}
+use Rattle.std.proofs.lemmas.List.{reverse-append}
+use Rattle.std.proofs.lemmas.List.Sums.{fold-append}
 use Prim.Native.Nat.{ℕ, zero, suc, ◌+◌, ◌*◌, ◌/◌, ◌%◌, ◌-◌, ◌^◌, ◌≤◌, ◌<◌, compare, Ordering}
 use Prim.Native.Nat.compare
 use native.Mathlib.Nat.{pow-suc, pow-succ', one-le-pow, zero-add, zero-mul, suc-add, mul-suc, add-mul, mul_assoc, mod-eq_of_lt}
@@ -9,10 +15,10 @@ use lib.Arith.{digits_lt, digits_div}
 use lib.Pow.{pow-add}
 use mir.Syntax.{w8}
 use mir.Val.{Fits}
-use lib.ListN.{length, take, drop, get_or, length-take, length-drop, drop_of_length-le, get_or-eq_default}
-use lib.Seq.{get_or-take, get_or-drop, drop-drop}
+use lib.ListN.{length, take, drop, get_or, length-take, drop_of_length-le, get_or-eq_default}
+use lib.Seq.{get_or-take, get_or-drop}
 use Rattle.laws.proofs.Cases.{below}
-use Rattle.laws.proofs.Lists.{drop_1, drop_3}
+use Rattle.laws.proofs.Lists.{mid_tail}
 use Rattle.key.specs.KeyOrder.{and_then, compare_bytes}
 use Rattle.key.proofs.KeyOrders.{Compared, less, equal, more, compared, compare_equal}
 use Rattle.tags.specs.Tags.{leading, head_of, AreBytes}
@@ -136,17 +142,28 @@ shifted k m l h e =
     let less : leading k l * 256 ^ m < 2 ^ 64 = omega (arith, leading-below 8 l h) in
     rw (bits m, s, digits_div (leading k l) low, mod-eq_of_lt less) (sym z)
 
--- Four bytes put together, and twice four.
-pub four_bytes : (s : List ℕ) (i : ℕ) → i + 4 ≤ length s
-    → ((get_or s i 0 * 256 + get_or s (i + 1) 0) * 256 + get_or s (i + 2) 0) * 256 + get_or s (i + 3) 0 ≡ leading 4 (drop i s)
+-- Eight bytes put together.
+eight_read : (t : List ℕ) → 8 ≤ length t → from_be_bytes w64 t ≡ head_of t
 unfolding leading
-four_bytes s i h = rw (drop_3 s i (omega arith), drop_1 s (i + 3) (omega arith)) (omega arith)
+eight_read [] k = absurd (omega arith)
+eight_read (a ∷ []) k = absurd (omega arith)
+eight_read (a ∷ b ∷ []) k = absurd (omega arith)
+eight_read (a ∷ b ∷ c ∷ []) k = absurd (omega arith)
+eight_read (a ∷ b ∷ c ∷ d ∷ []) k = absurd (omega arith)
+eight_read (a ∷ b ∷ c ∷ d ∷ e ∷ []) k = absurd (omega arith)
+eight_read (a ∷ b ∷ c ∷ d ∷ e ∷ f ∷ []) k = absurd (omega arith)
+eight_read (a ∷ b ∷ c ∷ d ∷ e ∷ f ∷ g ∷ []) k = absurd (omega arith)
+eight_read (a ∷ b ∷ c ∷ d ∷ e ∷ f ∷ g ∷ h ∷ l) k = omega arith
 
-pub four_fits : (s : List ℕ) (i : ℕ) → AreBytes s → leading 4 (drop i s) < 4294967296
-four_fits s i h = leading-below 4 (drop i s) (bytes_drop i h)
-
-pub eight_bytes : (s : List ℕ) (i : ℕ) → leading 4 (drop i s) * 4294967296 + leading 4 (drop (i + 4) s) ≡ head_of (drop i s)
-eight_bytes s i = sym (leading_split 4 4 (drop i s) ∙ rw (drop-drop 4 i s))
+-- The same of those that a slice has from an index on.
+pub eight_bytes : (s : List ℕ) (start : ℕ) {first : List ℕ} {x : ℕ}
+    → IsFirstChunk (take (length s - start) (drop start s)) first 8 → x ≡ from_be_bytes w64 first
+    → x ≡ head_of (drop start s)
+eight_bytes s start {first} {x} chunk e =
+    let rest = take (length s - start) (drop start s) in
+    let enough : 8 ≤ length (take 8 rest) = rw (length-take 8 rest) (omega (arith, chunk.enough)) in
+    e ∙ rw chunk.same (eight_read (take 8 rest) enough) ∙ leading-take 8 8 rest (omega arith)
+    ∙ ap head_of (mid_tail start s)
 
 -- What a slice of bytes is known to hold.
 pub are_bytes : (s : List ℕ) → ((i : ℕ) → Fits w8 (get_or s i 0)) → AreBytes s
@@ -165,40 +182,17 @@ leading-first : (b : ℕ) (l : List ℕ) → head_of (b ∷ l) ≡ b * 720575940
 unfolding leading
 leading-first b l = refl
 
--- The loop of `short_head`: the head of the bytes from i on.
-pub record Heading (s : List ℕ) (start len h i : ℕ) : Type 0 where
-  pub within : i ≤ len
-  pub so_far : h ≡ head_of (drop i (take len (drop start s)))
+-- The head of the bytes taken from the last to the first: a byte more in front moves the others back by one.
+abbrev pub byte_in_front : ℕ → ℕ → ℕ
+byte_in_front h b = h / 256 + b * 72057594037927936
 
-module _ (s : List ℕ) (start len : ℕ) (inside : start + len ≤ length s) where
-  part_length : length (take len (drop start s)) ≡ len
-  part_length = simp (length-take, length-drop) (omega arith)
+pub fold-head : (l : List ℕ) → AreBytes l → fold byte_in_front 0 (reverse l) ≡ head_of l
+fold-head [] h = sym (leading-nil 8)
+fold-head (b ∷ l) h =
+    rw (reverse-append (b ∷ []) l) (fold-append byte_in_front 0 (reverse l) (b ∷ []) ∙ rw (fold-head l (bytes_rest h)) in_front)
+  where
+    shifted_on : head_of l / 256 ≡ leading 7 l
+    shifted_on = rw (leading_split 7 1 l) (digits_div (leading 7 l) (leading-below 1 (drop 7 l) (bytes_drop 7 (bytes_rest h))))
 
-  pub heading_start : Heading s start len 0 len
-  heading_start =
-      let e : length (take len (drop start s)) ≤ len = omega (arith, part_length) in
-      record { within = omega arith; so_far = rw (drop_of_length-le (take len (drop start s)) e, leading-nil 8) }
-
-  pub heading_done : {h i : ℕ} → Heading s start len h i → i ≤ 0 → h ≡ head_of (take len (drop start s))
-  heading_done {h} {i} v k = let e : i ≡ 0 = omega arith in rw e at v.so_far
-
-  module _ {h i : ℕ} (bytes : AreBytes s) (v : Heading s start len h i) where
-    part_bytes : AreBytes (drop i (take len (drop start s)))
-    part_bytes = bytes_drop i (bytes_take len (bytes_drop start bytes))
-
-    pub heading_fits : h < 18446744073709551616
-    heading_fits = omega (arith, v.so_far, leading-below 8 (drop i (take len (drop start s))) part_bytes)
-
-    pub heading_more : 0 < i → Heading s start len (h / 256 + get_or s (start + (i - 1)) 0 * 72057594037927936) (i - 1)
-    heading_more k = record { within = omega (arith, v.within); so_far = rw (front, leading-first, v.so_far, shifted_on) (omega arith) }
-      where
-        front : drop (i - 1) (take len (drop start s)) ≡ get_or s (start + (i - 1)) 0 ∷ drop i (take len (drop start s))
-        front =
-            let e : i - 1 + 1 ≡ i = omega arith in
-            drop_1 (take len (drop start s)) (i - 1) (omega (arith, v.within, part_length))
-            ∙ rw (e, get_or-take len (drop start s) (i - 1) 0 (omega (arith, v.within)), get_or-drop start s (i - 1) 0)
-
-        shifted_on : head_of (drop i (take len (drop start s))) / 256 ≡ leading 7 (drop i (take len (drop start s)))
-        shifted_on =
-            let l = drop i (take len (drop start s)) in
-            rw (leading_split 7 1 l) (digits_div (leading 7 l) (leading-below 1 (drop 7 l) (bytes_drop 7 part_bytes)))
+    in_front : head_of l / 256 + b * 72057594037927936 ≡ head_of (b ∷ l)
+    in_front = rw (shifted_on, leading-first b l) (omega arith)

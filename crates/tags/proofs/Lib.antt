@@ -1,3 +1,3 @@
 pub mod Heads
 pub mod KeyTags
-pub mod Aligned
+pub mod Comparing

@@ -3,10 +3,10 @@ use Prim.Native.Nat as nat
 use Prim.Native.Nat.{ℕ, zero, suc, ◌+◌, ◌*◌, ◌/◌, ◌^◌, ◌≤◌, ◌<◌}
 use Rattle.std.specs.Prelude.{◌≡◌, List, [], ◌∷◌, get_or}
 use Rattle.key.specs.Keys.{Key, int, str, max_int}
-use Rattle.tags.specs.declared.Ordering.{Ordering}
-use Rattle.tags.specs.declared.Ordering.TheVariants.{Less, Equal, Greater}
+use Rattle.std.specs.declared.cmp.Ordering.{Ordering}
+use Rattle.std.specs.declared.cmp.Ordering.TheVariants.{Less, Equal, Greater}
 
--- The code's ordering as the library's, in which crate key has the key order.
+-- Rust's ordering as that of numbers, in which crate key has the key order.
 abbrev pub ordering_of : Ordering → nat.Ordering
 ordering_of Less = Prim.Native.Nat.Ordering.lt
 ordering_of Equal = Prim.Native.Nat.Ordering.eq

@@ -1,28 +1,15 @@
-use native.Mathlib.Omega.{arith}
-use mathlib.Core.Path.{refl, sym, ◌∙◌}
-use mathlib.Core.Bool.{true≢false}
-use Rattle.key.proofs.KeyOrders.{compare_equal}
-use Rattle.tags.proofs.Aligned.{aligned_end, aligned_next}
+use Rattle.std.proofs.Common.{◌∙◌, eqb, sym, rules, tests}
+use Rattle.std.proofs.lemmas.Iterator.{YieldsList-from_zip, YieldsList-from_slice}
+use Rattle.std.proofs.lemmas.Iterator.Search.{all_from_yields_List}
+use Rattle.tags.proofs.Comparing.{equal_bytes}
 use Rattle.tags.proofs.same_bytes.Goals as goal
 
 pub returns-then-a-b : goal.returns-then-a-b
-returns-then-a-b c = λ e. absurd (true≢false (sym e))
-
-pub loop-i-init : goal.loop-i-init
-loop-i-init c = record { inside = omega arith; within = omega arith; so_far = refl }
-
-pub bounds-b-i : goal.bounds-b-i
-bounds-b-i c = omega (arith, c.if-a-b.false)
-
-pub returns-then-a-i : goal.returns-then-a-i
-returns-then-a-i c = λ e. absurd (true≢false (sym e))
-
-pub loop-i-preserved : goal.loop-i-preserved
-loop-i-preserved c =
-    aligned_next c.loop-i.invariant (omega arith) (omega (arith, c.if-a-b.false))
-    c.if-a-i.false
-
-pub returns : goal.returns
-returns c =
-    λ _. sym (aligned_end c.loop-i.invariant (omega (arith, c.if-a-b.false))) ∙ compare_equal _ _
-    (omega (arith, c.if-a-b.false)) (omega (arith, c.if-a-b.false))
+returns-then-a-b c = λ e.
+    let a = c.args.a.now in
+    let b = c.args.b.now in
+    let pairs = YieldsList-from_zip {s = c.zip.result} (YieldsList-from_slice a cc) (YieldsList-from_slice b cc) in
+    let each =
+    all_from_yields_List (λ p. eqb p.0 p.1) c.all.new.self _ c.all.result c.all.ensures.ran pairs
+    (λ x r q k. search (rules, tests)) in
+    equal_bytes a b c.if-a-b.true (sym each ∙ e)
