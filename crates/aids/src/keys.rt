@@ -3,7 +3,6 @@
 ghost use Rattle.std.specs.Prelude.{◌+◌, ◌≤◌, ◌<◌, length};
 
 use crate::free;
-use tags::Ordering;
 
 // Word w of record n, or 0 past the end.
 fn word(words: &[u32], n: u32, w: usize) -> u32
@@ -60,9 +59,5 @@ pub(crate) fn is_not_after(words: &[u32], text: &[u8], n: u32, tag: u64, name: &
     let part = part_of(words, text, n);
     let start = part.start;
     let end = part.end;
-    match tags::compare_bytes(&text[start..end], name) {
-        Ordering::Less => true,
-        Ordering::Equal => true,
-        Ordering::Greater => false,
-    }
+    tags::compare_bytes(&text[start..end], name).is_le()
 }

@@ -6,19 +6,16 @@ use native.Mathlib.Omega.{arith}
 use Rattle.key.specs.KeyOrder.{compare_keys}
 use Rattle.row.specs.Row.{kind_word, child_word, next_word, map_kind}
 use Rattle.row.specs.Words.{record_count, word}
-use Rattle.tags.specs.declared.Ordering.{Ordering}
-use Rattle.tags.specs.declared.Ordering.TheVariants.{Less, Equal}
+use Rattle.std.specs.Prelude.{Option, Some}
+use Rattle.std.specs.declared.cmp.Ordering.{Ordering}
+use Rattle.std.specs.declared.cmp.Ordering.TheVariants.{Less, Equal}
 use Rattle.tags.specs.Tags.{ordering_of, leading, string_tag, Sought}
 use Rattle.aids.specs.declared.Among.{Among}
 use Rattle.aids.specs.Kept.{free_from, Kept}
 use Rattle.key.specs.Keys.{Key, str}
-use Rattle.records.specs.declared.siblings.Position.{Position}
-use Rattle.records.specs.declared.siblings.Position.TheVariants.{Found}
-use Rattle.finding.specs.declared.Tried.{Tried}
-use Rattle.finding.specs.declared.Tried.TheVariants.{At}
 use Rattle.records.specs.Records.{key_words_at}
 use Rattle.records.specs.Keys.{key_at, InText}
-use Rattle.records.specs.Siblings.{children, standing, position, WellFormed, Linked, Walking}
+use Rattle.records.specs.Siblings.{Position, found, children, standing, position, WellFormed, Linked, Walking}
 use Rattle.finding.specs.Aids.{ChildOf, InOrder, Ready}
 use Rattle.finding.specs.Finding.{tagged_key, Asked, Tells}
 use Rattle.records.proofs.Chains.{children-end}
@@ -94,10 +91,10 @@ module _ {ws text : List ℕ} {among : Among} {tag : ℕ} {name : List ℕ} (a :
       asked-equal f = walking_at (ready-linked a.ready) a.inside p text _ in_order (ready-formed a.ready) (stands ∙ ap ordering_of f)
 
 -- A try that tells a position.
-pub tell : (p : Position) (t : Tried) (q : Position) → Tells p t → t ≡ At q → q ≡ p
-tell p t q h e = subst (λ (s : Tried). Tells p s) e h
+pub tell : (p : Position) (t : Option Position) (q : Position) → Tells p t → t ≡ Some q → q ≡ p
+tell p t q h e = subst (λ (s : Option Position). Tells p s) e h
 
-pub tell_on : (t : Tried) {p q : Position} → p ≡ q → Tells p t → Tells q t
+pub tell_on : (t : Option Position) {p q : Position} → p ≡ q → Tells p t → Tells q t
 tell_on t e h = subst (λ (s : Position). Tells s t) e h
 
 -- The empty key.
@@ -111,5 +108,5 @@ empty_sought = record { tag_is = refl; name-is = refl; int-fits = tt }
 
 -- A child that has the key.
 pub found-again : {ws text : List ℕ} {used aids n c : ℕ} (r : Ready ws text used aids) → n < used → word ws n kind_word ≡ map_kind → ChildOf ws n c
-    → (k : Key) → compare_keys (key_at ws text c) k ≡ Prim.Native.Nat.Ordering.eq → Found c ≡ position ws text k n
+    → (k : Key) → compare_keys (key_at ws text c) k ≡ Prim.Native.Nat.Ordering.eq → found c ≡ position ws text k n
 found-again {n = n} r i map p k e = sym (seek_found (ready-linked r) i p _ k (r.sorted n i map) e)

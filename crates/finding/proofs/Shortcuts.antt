@@ -9,11 +9,10 @@ use Rattle.key.specs.KeyOrder.{compare_keys}
 use Rattle.key.proofs.KeyOrders.{keys_trans, equal-keys}
 use Rattle.row.specs.Row.{child_word, next_word}
 use Rattle.row.specs.Words.{record_count, word}
-use Rattle.records.specs.declared.siblings.Position.TheVariants.{Found, Between}
 use Rattle.records.specs.Keys.{key_at}
-use Rattle.records.specs.Siblings.{chain, children, last_of, standing, seek, position, Within, ChainEnds, Linked, WellFormed}
+use Rattle.records.specs.Siblings.{chain, children, last_of, standing, seek, found, between, position, Within, ChainEnds, Linked, WellFormed}
 use Rattle.finding.specs.Aids.{first_of, ChildOf, Gap, InOrder}
-use Rattle.records.proofs.Chains.{chain-end, step, is_record, ends_next, children-end, last_within, never_both}
+use Rattle.records.proofs.Chains.{chain-end, step, is_record, ends_next, children-end, last_within, never_both, between-same}
 use Rattle.records.specs.Siblings.{Walking}
 
 -- Records in the order of their keys, to a key k.
@@ -39,7 +38,7 @@ module _ (ws text : List ℕ) (k : Key) where
 
   -- And those before one that has the key.
   seek-at : (c prev : ℕ) (before behind : List ℕ) → standing ws text k c ≡ Ordering.eq → InOrder ws text (before ++ (c ∷ behind))
-      → seek (standing ws text k) prev (before ++ (c ∷ behind)) ≡ Found c
+      → seek (standing ws text k) prev (before ++ (c ∷ behind)) ≡ found c
   unfolding seek
   seek-at c prev [] behind e h = rw e
   seek-at c prev (m ∷ ms) behind e h =
@@ -109,7 +108,7 @@ module _ {ws : List ℕ} {used : ℕ} (l : Linked ws used) {n c : ℕ} (i : n < 
         → seek (standing ws text k) 0 (children ws n) ≡ seek (standing ws text k) c (chain ws (record_count ws) (word ws c next_word))
     seek-from e = rw (p.splits, reached.rest) (seek-behind ws text k c 0 p.before p.behind e ordered)
 
-    pub seek_found : standing ws text k c ≡ Ordering.eq → seek (standing ws text k) 0 (children ws n) ≡ Found c
+    pub seek_found : standing ws text k c ≡ Ordering.eq → seek (standing ws text k) 0 (children ws n) ≡ found c
     seek_found e = rw p.splits (seek-at ws text k c 0 p.before p.behind e ordered)
 
     pub walking_from : WellFormed ws text used → standing ws text k c ≡ Ordering.lt
@@ -121,7 +120,7 @@ module _ {ws : List ℕ} {used : ℕ} (l : Linked ws used) {n c : ℕ} (i : n < 
     unfolding seek
     walking_at h e = record { among = record { used = used; holds = (h, reached.here) }; so_far = at_once ∙ sym (seek_found e) }
       where
-        at_once : seek (standing ws text k) 0 (chain ws (record_count ws) c) ≡ Found c
+        at_once : seek (standing ws text k) 0 (chain ws (record_count ws) c) ≡ found c
         at_once = rw (step ws reached.here reached.no-root, e)
 
 -- A list parted between prev and next, d standing before it.
@@ -132,12 +131,14 @@ record Parted (d : ℕ) (ms : List ℕ) (prev next : ℕ) : Type 0 where
   prev_is : prev ≡ last_of d before
   next-is : next ≡ first_of behind
 
-seek_parts : (stands : ℕ → Ordering) (d : ℕ) (ms : List ℕ) (prev next : ℕ) → seek stands d ms ≡ Between prev next → Parted d ms prev next
+seek_parts : (stands : ℕ → Ordering) (d : ℕ) (ms : List ℕ) (prev next : ℕ) → seek stands d ms ≡ between prev next → Parted d ms prev next
 unfolding seek
-seek_parts stands d [] prev next e = record { before = []; behind = []; splits = refl; prev_is = cc; next-is = cc }
+seek_parts stands d [] prev next e =
+    let same = between-same e in
+    record { before = []; behind = []; splits = refl; prev_is = sym same.0; next-is = sym same.1 }
 seek_parts stands d (m ∷ ms) prev next e = go (stands m) refl (seek_parts stands m ms prev next)
   where
-    go : (o : Ordering) → stands m ≡ o → (seek stands m ms ≡ Between prev next → Parted m ms prev next) → Parted d (m ∷ ms) prev next
+    go : (o : Ordering) → stands m ≡ o → (seek stands m ms ≡ between prev next → Parted m ms prev next) → Parted d (m ∷ ms) prev next
     go Ordering.lt q ih =
         let r = ih (rw q at e) in
         record {
@@ -149,11 +150,12 @@ seek_parts stands d (m ∷ ms) prev next e = go (stands m) refl (seek_parts stan
         }
     go Ordering.eq q ih = never_both m prev next (rw q at e)
     go Ordering.gt q ih =
-        let f : Between d m ≡ Between prev next = rw q at e in
-        record { before = []; behind = m ∷ ms; splits = refl; prev_is = cc; next-is = cc }
+        let f : between d m ≡ between prev next = rw q at e in
+        let same = between-same f in
+        record { before = []; behind = m ∷ ms; splits = refl; prev_is = sym same.0; next-is = sym same.1 }
 
 -- Where a key is found between two children there is room for it.
-pub gap_position : (ws text : List ℕ) (k : Key) (n prev next : ℕ) → position ws text k n ≡ Between prev next → Gap ws n prev next
+pub gap_position : (ws text : List ℕ) (k : Key) (n prev next : ℕ) → position ws text k n ≡ between prev next → Gap ws n prev next
 gap_position ws text k n prev next e =
     let r = seek_parts (standing ws text k) 0 (children ws n) prev next e in
     record { before = r.before; behind = r.behind; splits = r.splits; prev_is = r.prev_is; next-is = r.next-is }

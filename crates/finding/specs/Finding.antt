@@ -1,13 +1,11 @@
 -- A key looked for among the children of a Map by its tag and its bytes, with the aids.
-use Rattle.std.specs.Prelude.{ℕ, ◌<◌, ◌≡◌, cond, List, ltb}
+use Rattle.std.specs.Prelude.{ℕ, ◌<◌, ◌≡◌, cond, List, ltb, Option, Some, None}
 use Rattle.key.specs.Keys.{Key, int, str}
 use Rattle.row.specs.Row.{kind_word, map_kind}
 use Rattle.row.specs.Words.{word}
 use Rattle.tags.specs.Tags.{string_tag, Sought}
 use Rattle.aids.specs.declared.Among.{Among}
-use Rattle.records.specs.declared.siblings.Position.{Position}
-use Rattle.finding.specs.declared.Tried.{Tried}
-use Rattle.finding.specs.declared.Tried.TheVariants.{At, Further}
+use Rattle.records.specs.Siblings.{Position}
 use Rattle.finding.specs.Aids.{Ready}
 
 -- The key that a tag and the bytes beside it are of.
@@ -22,6 +20,6 @@ pub record Asked (ws text : List ℕ) (among : Among) (tag : ℕ) (name : List �
   pub tagged : Sought (tagged_key tag name) tag name
 
 -- A try tells the position, or nothing.
-abbrev pub Tells : Position → Tried → Type 0
-Tells p (At q) = q ≡ p
-Tells p Further = Unit {0}
+abbrev pub Tells : Position → Option Position → Type 0
+Tells p (Some q) = q ≡ p
+Tells p None = Unit {0}

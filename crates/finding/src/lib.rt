@@ -7,23 +7,22 @@
 // Below it stand the store (records), a record's row (row), the keys (key), their tags (tags) and the aids (aids).
 #![tactic(auto)]
 
-ghost use Rattle.std.specs.Prelude.{◌≡◌, ◌≢◌, true, false, length, set, ◌+◌, ◌≤◌, ◌<◌};
+ghost use Rattle.std.specs.Prelude.{◌≡◌, ◌≢◌, true, false, IfSome, length, set, ◌+◌, ◌≤◌, ◌<◌};
 ghost use Rattle.row.specs.Row.{kind_word, child_word, map_kind};
 ghost use Rattle.row.specs.Words.{record_count, word};
 ghost use Rattle.tags.specs.Tags.{Sought};
 ghost use Rattle.aids.specs.Kept.{free_from, no_aids, Kept};
-ghost use Rattle.records.specs.declared.siblings.Position.TheVariants.{Found};
 ghost use Rattle.records.specs.Keys.{sought_key};
-ghost use Rattle.records.specs.Siblings.{chain, children, standing, seek, position, last_of, ChainEnds, Linked};
-ghost use Rattle.records.specs.Siblings.{WellFormed, ForSome, Walking};
+ghost use Rattle.records.specs.Siblings.{chain, children, standing, seek, found, position, last_of, ChainEnds};
+ghost use Rattle.records.specs.Siblings.{Linked, WellFormed, ForSome, Walking};
 ghost use Rattle.finding.specs.Aids.{ChildOf, Aided, Ready, parent_index, aids_for};
 ghost use Rattle.finding.specs.Finding.{tagged_key, Asked, Tells};
 
 use aids::{Among, fingers, slots};
 use key::KeyKind;
-use records::keys::Ordering;
-use records::siblings::Position;
+use records::siblings::{Gap, Position};
 use records::{keys, siblings};
+use std::cmp::Ordering;
 
 // Siblings looked through from the slot's child on, from the first on, and from a finger's child on.
 const BESIDE: u32 = 2;
@@ -39,32 +38,24 @@ pub struct Walk {
     pub cur: u32,
 }
 
-// The answer of a try: the position, or that it lies further on.
-#[derive(Clone, Copy)]
-pub enum Tried {
-    At(Position),
-    Further,
-}
-
 // Whether the aids know record c as a child of the parent.
 fn is_child(words: &[u32], among: Among, c: u32) -> bool
     requires { Aided words.now among.used among.aids × (among.aids ≢ no_aids) }
     ensures { result ≡ true → ChildOf words.now among.parent c }
 {
-    if c == 0 {
-        return false;
-    }
-    if among.used <= c {
-        return false;
-    }
-    if words[among.aids as usize * row::WIDTH + c as usize] == among.parent {
-        return true;
-    }
-    false
+    (1..among.used).contains(&c)
+        && words[among.aids as usize * row::WIDTH + c as usize] == among.parent
 }
 
 // The position of a key in the rest of a walk, if it is among so many siblings.
-fn walk_some(words: &[u32], text: &[u8], walk: Walk, steps: u32, tag: u64, name: &[u8]) -> Tried
+fn walk_some(
+    words: &[u32],
+    text: &[u8],
+    walk: Walk,
+    steps: u32,
+    tag: u64,
+    name: &[u8],
+) -> Option<Position>
     requires well_formed { ForSome (λ used. WellFormed words.now text.now used × ChainEnds words.now used walk.cur) }
     requires sought { Sought (tagged_key tag name.now) tag name.now }
     ensures { Tells (seek (standing words.now text.now (tagged_key tag name.now))
@@ -75,7 +66,7 @@ fn walk_some(words: &[u32], text: &[u8], walk: Walk, steps: u32, tag: u64, name:
     let mut left = steps;
     while cur != 0 {
         if left == 0 {
-            return Tried::Further;
+            return None;
         }
         left -= 1;
         match keys::compare_tagged(words, text, cur, tag, name) {
@@ -84,14 +75,14 @@ fn walk_some(words: &[u32], text: &[u8], walk: Walk, steps: u32, tag: u64, name:
                 cur = row::get_word(words, cur, row::NEXT);
             }
             Ordering::Equal => {
-                return Tried::At(Position::Found(cur));
+                return Some(Ok(cur));
             }
             Ordering::Greater => {
-                return Tried::At(Position::Between(prev, cur));
+                return Some(Err(Gap { prev, next: cur }));
             }
         }
     }
-    Tried::At(Position::Between(prev, 0))
+    Some(Err(Gap { prev, next: 0 }))
 }
 
 // The position of a key in the rest of a walk.
@@ -110,14 +101,14 @@ fn walk_all(words: &[u32], text: &[u8], walk: Walk, tag: u64, name: &[u8]) -> Po
                 cur = row::get_word(words, cur, row::NEXT);
             }
             Ordering::Equal => {
-                return Position::Found(cur);
+                return Ok(cur);
             }
             Ordering::Greater => {
-                return Position::Between(prev, cur);
+                return Err(Gap { prev, next: cur });
             }
         }
     }
-    Position::Between(prev, 0)
+    Err(Gap { prev, next: 0 })
 }
 
 // A walk from the first child on.
@@ -176,8 +167,8 @@ fn find_by_fingers(words: &mut [u32], text: &[u8], among: Among, tag: u64, name:
     let child = fingers::propose(words, text, among, tag, name);
     let walk = walk_from(words, text, among, child, tag, name);
     match walk_some(words, text, walk, FROM_FINGER, tag, name) {
-        Tried::At(position) => position,
-        Tried::Further => {
+        Some(position) => position,
+        None => {
             let position = walk_all(words, text, walk, tag, name);
             fingers::walk_far(words, among.aids, walk.cur);
             position
@@ -201,37 +192,38 @@ fn settle(words: &mut [u32], text: &[u8], among: Among, position: Position) -> P
     ensures position { result ≡ position }
     ensures kept { Kept (free_from among.aids) words.old words.new }
 {
-    match position {
-        Position::Found(child) => {
-            touch(words, text, among, child);
-            Position::Found(child)
-        }
-        Position::Between(prev, next) => Position::Between(prev, next),
+    if let Ok(child) = position {
+        touch(words, text, among, child);
     }
+    position
 }
 
-// The child touched last, if it has the key, or 0: so most keys that come again are found, without a tag.
-pub fn find_again(words: &[u32], text: &[u8], among: Among, key: KeyKind, name: &[u8]) -> u32
+// The child touched last, if it has the key: so most keys that come again are found, without a tag.
+pub fn find_again(
+    words: &[u32],
+    text: &[u8],
+    among: Among,
+    key: KeyKind,
+    name: &[u8],
+) -> Option<u32>
     requires ready { Ready words.now text.now among.used among.aids }
     requires inside { (among.parent < among.used)
         × (word words.now among.parent kind_word ≡ map_kind) }
-    ensures { result ≢ 0 → Found result ≡ position words.now text.now
-        (sought_key key false name.now) among.parent }
+    ensures { IfSome result (λ child. found child ≡ position words.now text.now
+        (sought_key key false name.now) among.parent) }
 {
     if among.aids == aids::NO_AIDS {
-        return 0;
+        return None;
     }
     let child = slots::last(words, among);
-    if is_child(words, among, child) {
-        if keys::has_key(words, text, child, key, name) {
-            return child;
-        }
+    if is_child(words, among, child) && keys::has_key(words, text, child, key, name) {
+        return Some(child);
     }
-    0
+    None
 }
 
 // The position of a key if it stands at the slot's child or beside it.
-fn try_slot(words: &[u32], text: &[u8], among: Among, tag: u64, name: &[u8]) -> Tried
+fn try_slot(words: &[u32], text: &[u8], among: Among, tag: u64, name: &[u8]) -> Option<Position>
     requires asked { Asked words.now text.now among tag name.now }
     requires aided { among.aids ≢ no_aids }
     ensures { Tells (position words.now text.now (tagged_key tag name.now)
@@ -242,17 +234,17 @@ fn try_slot(words: &[u32], text: &[u8], among: Among, tag: u64, name: &[u8]) -> 
         let walk = walk_from(words, text, among, child, tag, name);
         return walk_some(words, text, walk, BESIDE, tag, name);
     }
-    Tried::Further
+    None
 }
 
 // The position of a key if it stands among the first children of a record that isn't known to have many.
-fn try_first(words: &[u32], text: &[u8], among: Among, tag: u64, name: &[u8]) -> Tried
+fn try_first(words: &[u32], text: &[u8], among: Among, tag: u64, name: &[u8]) -> Option<Position>
     requires { Asked words.now text.now among tag name.now }
     ensures { Tells (position words.now text.now (tagged_key tag name.now)
         among.parent) result }
 {
     if slots::has_many(words, among) {
-        return Tried::Further;
+        return None;
     }
     let walk = walk_first(words, text, among, tag, name);
     walk_some(words, text, walk, FIRST, tag, name)
@@ -268,8 +260,8 @@ pub fn find_far(words: &mut [u32], text: &[u8], among: Among, tag: u64, name: &[
 {
     fingers::look_near(words, among.aids);
     match try_first(words, text, among, tag, name) {
-        Tried::At(position) => settle(words, text, among, position),
-        Tried::Further => {
+        Some(position) => settle(words, text, among, position),
+        None => {
             let position = find_by_fingers(words, text, among, tag, name);
             settle(words, text, among, position)
         }
@@ -282,15 +274,10 @@ fn settle_near(words: &mut [u32], among: Among, position: Position) -> Position
     ensures kept { Kept (free_from among.aids) words.old words.new }
 {
     match position {
-        Position::Found(child) => {
-            slots::set_near(words, among, child);
-            Position::Found(child)
-        }
-        Position::Between(prev, next) => {
-            fingers::look_near(words, among.aids);
-            Position::Between(prev, next)
-        }
+        Ok(child) => slots::set_near(words, among, child),
+        Err(_) => fingers::look_near(words, among.aids),
     }
+    position
 }
 
 // The position of a key among the children of a Map.
@@ -305,8 +292,8 @@ pub fn find(words: &mut [u32], text: &[u8], among: Among, tag: u64, name: &[u8])
         return walk_all(words, text, walk, tag, name);
     }
     match try_slot(words, text, among, tag, name) {
-        Tried::At(position) => settle_near(words, among, position),
-        Tried::Further => find_far(words, text, among, tag, name),
+        Some(position) => settle_near(words, among, position),
+        None => find_far(words, text, among, tag, name),
     }
 }
 

@@ -5,15 +5,15 @@ use mathlib.Core.List.{List, [], ◌∷◌}
 use Prim.Native.Nat.{ℕ, zero, suc, ◌<◌, Ordering}
 use native.Mathlib.Omega.{arith}
 use lib.ListN.{length}
-use Rattle.tags.specs.declared.Ordering.{Ordering as KeyOrdering}
-use Rattle.tags.specs.declared.Ordering.TheVariants.{Less, Equal, Greater}
-use Rattle.records.specs.declared.siblings.Position.TheVariants.{Found, Between}
+use Rattle.std.specs.declared.cmp.Ordering.{Ordering as KeyOrdering}
+use Rattle.std.specs.declared.cmp.Ordering.TheVariants.{Less, Equal, Greater}
+use Rattle.records.specs.declared.siblings.Gap.{Gap}
 use Rattle.row.specs.Row.{child_word, next_word}
 use Rattle.row.specs.Words.{record_count, word}
 use Rattle.records.specs.Records.{key_words_at}
 use Rattle.records.specs.Keys.{InText}
 use Rattle.tags.specs.Tags.{ordering_of}
-use Rattle.records.specs.Siblings.{chain, children, last_of, seek, Within, ChainEnds, Linked, ForSome, Walking}
+use Rattle.records.specs.Siblings.{chain, children, last_of, seek, Within, ChainEnds, Linked, ForSome, Walking, found, between}
 
 pub chain-end : (ws : List ℕ) (f : ℕ) → chain ws f 0 ≡ []
 unfolding chain
@@ -77,15 +77,15 @@ module _ {stands : ℕ → Ordering} {ws text : List ℕ} {before start prev cur
             so_far = rw (sym e ∙ ap ordering_of f) at on;
           }
 
-      pub walking_found : o ≡ Equal → Found cur ≡ seek stands before (chain ws (record_count ws) start)
+      pub walking_found : o ≡ Equal → found cur ≡ seek stands before (chain ws (record_count ws) start)
       unfolding seek
       walking_found f = rw (sym e ∙ ap ordering_of f) at on
 
-      pub walking_past : o ≡ Greater → Between prev cur ≡ seek stands before (chain ws (record_count ws) start)
+      pub walking_past : o ≡ Greater → between prev cur ≡ seek stands before (chain ws (record_count ws) start)
       unfolding seek
       walking_past f = rw (sym e ∙ ap ordering_of f) at on
 
-  pub walking_end : cur ≡ 0 → Between prev 0 ≡ seek stands before (chain ws (record_count ws) start)
+  pub walking_end : cur ≡ 0 → between prev 0 ≡ seek stands before (chain ws (record_count ws) start)
   unfolding seek
   walking_end e = rw (e, chain-end ws (record_count ws)) at v.so_far
 
@@ -131,16 +131,22 @@ module _ {ws : List ℕ} {used : ℕ} (k : Linked ws used) (n : ℕ) (l : n < us
   last-inside = last_within n used 0 (children ws n) (omega arith) (k.rising n l)
 
 -- A key is not at a child and between two.
-pub never_both : {A : Type 0} (m p x : ℕ) → Found m ≡ Between p x → A
+pub never_both : {A : Type 0} (m p x : ℕ) → found m ≡ between p x → A
 never_both m p x e = absurd (let z : ◌≡◌ {A = ℕ} 0 1 = cc in omega arith)
 
+-- A gap has one record on each side.
+pub between-same : {p x q y : ℕ} → between p x ≡ between q y → (p ≡ q) × (x ≡ y)
+between-same {p} {x} {q} {y} e =
+    let same : ◌≡◌ {A = Gap} (record { prev = p; next = x }) (record { prev = q; next = y }) = cc in
+    (ap (λ (g : Gap). g.prev) same, ap (λ (g : Gap). g.next) same)
+
 -- A place in a list of numbers between two bounds.
-pub found_within : (stands : ℕ → Ordering) (lo hi prev m : ℕ) (ms : List ℕ) → seek stands prev ms ≡ Found m → Within lo hi ms → (lo < m) × (m < hi)
+pub found_within : (stands : ℕ → Ordering) (lo hi prev m : ℕ) (ms : List ℕ) → seek stands prev ms ≡ found m → Within lo hi ms → (lo < m) × (m < hi)
 unfolding seek
 found_within stands lo hi prev m [] e h = never_both m prev 0 (sym e)
 found_within stands lo hi prev m (k ∷ ms) e h = go (stands k) refl (found_within stands lo hi k m ms)
   where
-    go : (o : Ordering) → stands k ≡ o → (seek stands k ms ≡ Found m → Within lo hi ms → (lo < m) × (m < hi)) → (lo < m) × (m < hi)
+    go : (o : Ordering) → stands k ≡ o → (seek stands k ms ≡ found m → Within lo hi ms → (lo < m) × (m < hi)) → (lo < m) × (m < hi)
     go Ordering.lt q ih = ih (rw q at e) h.2
-    go Ordering.eq q ih = let f : Found k ≡ Found m = rw q at e in let g : k ≡ m = cc in rw (← g) (h.0, h.1)
+    go Ordering.eq q ih = let f : found k ≡ found m = rw q at e in let g : k ≡ m = cc in rw (← g) (h.0, h.1)
     go Ordering.gt q ih = never_both m prev k (sym (rw q at e))

@@ -1,6 +1,11 @@
 -- Keys compared: the loop over the decoded bytes, and a record's key by its kind and that of the one looked for.
-use mathlib.Core.Path.{◌≡◌, ap, sym, ◌∙◌}
-use mathlib.Core.Logic.{◌≢◌}
+use mathlib.Core.Path.{◌≡◌, refl, ap, sym, ◌∙◌}
+use mathlib.Core.Logic.{◌≢◌, ◌⊎◌, ⊎_elim}
+use mathlib.Core.Bool.{Bool, true}
+use Rattle.std.proofs.lemmas.Bool.{false≢true}
+use Rattle.std.specs.Ordering.{is_eq}
+use Rattle.std.specs.declared.cmp.Ordering.{Ordering as KeyOrdering}
+use Rattle.std.specs.declared.cmp.Ordering.TheVariants.{Less, Equal, Greater}
 use mathlib.Core.List.{List}
 use Prim.Native.Nat.{Ordering}
 use Prim.Native.Nat.{ℕ, ◌+◌, ◌-◌, ◌≤◌, ◌<◌, compare}
@@ -13,12 +18,14 @@ use Rattle.decode.specs.Decoding.{decoded}
 use Rattle.decode.specs.Stepping.{rest, Yields}
 use Rattle.decode.proofs.Steps.{rest-zero, rest-done}
 use Rattle.key.specs.Keys.{int, str}
+use Rattle.key.specs.declared.KeyKind.{KeyKind}
+use Rattle.key.specs.declared.KeyKind.TheVariants.{None, Int, String}
 use Rattle.key.specs.KeyOrder.{compare_bytes, compare_keys, and_then}
 use Rattle.key.proofs.KeyOrders.{compare_less, compare_greater, compare_equal}
 use Rattle.row.specs.Row.{key_kind_word, key_word, key_len_word, int_key_kind}
 use Rattle.row.specs.Words.{word, text_part}
 use Rattle.records.specs.Records.{key_words_at}
-use Rattle.records.specs.Keys.{stored_key, key_at, InText}
+use Rattle.records.specs.Keys.{stored_key, key_at, InText, sought_key, unescaped}
 
 -- The loop of `compare_escaped`: what is left to be compared gives the whole answer.
 pub record Comparing (bytes raw : List ℕ) (i j k : ℕ) : Type 0 where
@@ -80,3 +87,19 @@ module _ (ws text : List ℕ) (n : ℕ) {kind : ℕ} (e : kind ≡ word ws n key
 
     pub string-string : (x : List ℕ) → compare_bytes (take (start + len - start) (drop start text)) x ≡ compare_keys (key_at ws text n) (str x)
     string-string x = rw (string-key h) (simp (add-sub_cancel_left, p, q))
+
+-- The key that is looked for, by its kind.
+module _ (escaped : Bool) (bytes : List ℕ) where
+  pub sought-int : {key : KeyKind} {i : ℕ} → key ≡ Int i → sought_key key escaped bytes ≡ int i
+  unfolding sought_key
+  sought-int e = rw e
+
+  pub sought-string : {key : KeyKind} → (key ≡ None) ⊎ (key ≡ String) → sought_key key escaped bytes ≡ str (unescaped escaped bytes)
+  unfolding sought_key
+  sought-string {key} h = ⊎_elim (λ e. rw e) (λ e. rw e) h
+
+-- An order that `is_eq` holds of.
+pub equal_order : (o : KeyOrdering) → is_eq o ≡ true → o ≡ Equal
+equal_order Less e = absurd (false≢true e)
+equal_order Equal e = refl
+equal_order Greater e = absurd (false≢true e)

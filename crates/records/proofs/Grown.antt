@@ -9,8 +9,8 @@ use native.Mathlib.Decide.{ℕ_discrete}
 use borrow.Author.Tests.{eq-eqb, ne_eqb}
 use lib.Dec.{eqb}
 use Rattle.row.specs.Row.{record_width, child_word, next_word}
-use Rattle.records.specs.declared.siblings.Position.TheVariants.{Between}
 use Rattle.records.specs.declared.store.Record.{Record}
+use Rattle.records.specs.Siblings.{between}
 use Rattle.row.specs.Words.{record_count, word}
 use Rattle.records.specs.Records.{key_words_at, record_at, with_record, inserted}
 use Rattle.records.specs.Keys.{InText}
@@ -41,28 +41,28 @@ rising-more u (down n r a s) x y k q e b = (λ m p. go m p (ℕ_discrete m u), r
 rising-more u (along n r c a) x y k q e b = (k.0, k.1, rising-more u a x y k.2 q e (λ m p. b m (omega arith)))
 
 module _ (stands : Record → Ordering) (u : ℕ) (new : Record) where
-  size-insert : (f : Nodes) (prev p x : ℕ) → seek_node stands prev f ≡ Between p x → size (insert_node stands u new f) ≡ size f + 1
+  size-insert : (f : Nodes) (prev p x : ℕ) → seek_node stands prev f ≡ between p x → size (insert_node stands u new f) ≡ size f + 1
   size-insert nil prev p x e = refl
   size-insert (node n r c s) prev p x e = go (stands r) refl (size-insert s n p x)
     where
-      go : (o : Ordering) → stands r ≡ o → (seek_node stands n s ≡ Between p x → size (insert_node stands u new s) ≡ size s + 1)
+      go : (o : Ordering) → stands r ≡ o → (seek_node stands n s ≡ between p x → size (insert_node stands u new s) ≡ size s + 1)
           → size (insert_node stands u new (node n r c s)) ≡ size (node n r c s) + 1
       go Ordering.lt q ih = rw q (omega (arith, ih (rw q at e)))
       go Ordering.eq q ih = never_both n p x (rw q at e)
       go Ordering.gt q ih = rw q (omega arith)
 
-  rising-insert : (f : Nodes) (prev p x : ℕ) → seek_node stands prev f ≡ Between p x → Rising f → Rising (insert_node stands u new f)
+  rising-insert : (f : Nodes) (prev p x : ℕ) → seek_node stands prev f ≡ between p x → Rising f → Rising (insert_node stands u new f)
   rising-insert nil prev p x e k = (λ m g. absurd (omega arith), tt, tt)
   rising-insert (node n r c s) prev p x e k = go (stands r) refl (rising-insert s n p x)
     where
-      go : (o : Ordering) → stands r ≡ o → (seek_node stands n s ≡ Between p x → Rising s → Rising (insert_node stands u new s))
+      go : (o : Ordering) → stands r ≡ o → (seek_node stands n s ≡ between p x → Rising s → Rising (insert_node stands u new s))
           → Rising (insert_node stands u new (node n r c s))
       go Ordering.lt q ih = rw q (k.0, k.1, ih (rw q at e) k.2)
       go Ordering.eq q ih = never_both n p x (rw q at e)
       go Ordering.gt q ih = rw q ((λ m g. absurd (omega arith)), tt, k)
 
 module _ {ws text : List ℕ} {used : ℕ} (n : ℕ) (r : Record) (c s : Nodes) (a : Context) (k : Holds ws text used (plug a (node n r c s)))
-    (room : used < record_count ws) (new : Record) (stands : Record → Ordering) (p x : ℕ) (e : seek_node stands 0 c ≡ Between p x) where
+    (room : used < record_count ws) (new : Record) (stands : Record → Ordering) (p x : ℕ) (e : seek_node stands 0 c ≡ between p x) where
   abbrev old : Nodes
   old = plug a (node n r c s)
 

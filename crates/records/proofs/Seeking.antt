@@ -11,21 +11,19 @@ use lib.Dec.{eqb}
 use Rattle.row.specs.Row.{record_width, child_word, next_word}
 use Rattle.key.specs.Keys.{Key}
 use Rattle.key.specs.KeyOrder.{compare_keys, choose}
-use Rattle.records.specs.declared.siblings.Position.{Position}
-use Rattle.records.specs.declared.siblings.Position.TheVariants.{Found, Between}
 use Rattle.records.specs.declared.store.Record.{Record}
 use Rattle.row.specs.Words.{word}
 use Rattle.records.specs.Keys.{stored_key}
-use Rattle.records.specs.Siblings.{standing, seek}
+use Rattle.records.specs.Siblings.{standing, seek, found, between, Position}
 use Rattle.records.specs.Nodes.{Nodes, nil, node, first, indicator, count}
 use Rattle.records.specs.Holds.{Row, Represents}
-use Rattle.records.proofs.Chains.{never_both}
+use Rattle.records.proofs.Chains.{never_both, between-same}
 use Rattle.records.proofs.Forests.{indicator-same, record_kept, frame, numbers}
 
 -- The position in a line of nodes, each of which stands somewhere to the key, behind prev.
 abbrev pub seek_node : (Record → Ordering) → ℕ → Nodes → Position
-seek_node stands prev nil = Between prev 0
-seek_node stands prev (node m r c s) = choose (stands r) (seek_node stands m s) (Found m) (Between prev m)
+seek_node stands prev nil = between prev 0
+seek_node stands prev (node m r c s) = choose (stands r) (seek_node stands m s) (found m) (between prev m)
 
 -- The line with a new node in that place.
 abbrev pub insert_node : (Record → Ordering) → ℕ → Record → Nodes → Nodes
@@ -46,24 +44,24 @@ seek-numbers ws text k prev (node n r c s) h =
 
 module _ (stands : Record → Ordering) where
   -- The one before the place is what came before the line, or a node of it.
-  pub seek_prev : (f : Nodes) (prev p x : ℕ) → seek_node stands prev f ≡ Between p x → (p ≡ prev) ⊎ (0 < count p f)
-  seek_prev nil prev p x e = inl (cc)
+  pub seek_prev : (f : Nodes) (prev p x : ℕ) → seek_node stands prev f ≡ between p x → (p ≡ prev) ⊎ (0 < count p f)
+  seek_prev nil prev p x e = inl (sym (between-same e).0)
   seek_prev (node m r c s) prev p x e = go (stands r) refl (seek_prev s m p x)
     where
-      go : (o : Ordering) → stands r ≡ o → (seek_node stands m s ≡ Between p x → (p ≡ m) ⊎ (0 < count p s)) → (p ≡ prev) ⊎ (0 < count p (node m r c s))
+      go : (o : Ordering) → stands r ≡ o → (seek_node stands m s ≡ between p x → (p ≡ m) ⊎ (0 < count p s)) → (p ≡ prev) ⊎ (0 < count p (node m r c s))
       go Ordering.lt q ih =
           ⊎_elim (λ g. inr (omega (arith, indicator-same m, ap (λ (t : ℕ). indicator t m) g))) (λ g. inr (omega arith))
           (ih (rw q at e))
       go Ordering.eq q ih = never_both m p x (rw q at e)
-      go Ordering.gt q ih = let f : Between prev m ≡ Between p x = rw q at e in inl (cc)
+      go Ordering.gt q ih = let f : between prev m ≡ between p x = rw q at e in inl (sym (between-same f).0)
 
   module _ (u : ℕ) (new : Record) where
     pub count-insert : (m : ℕ) (f : Nodes) (prev p x : ℕ)
-        → seek_node stands prev f ≡ Between p x → count m (insert_node stands u new f) ≡ count m f + indicator m u
+        → seek_node stands prev f ≡ between p x → count m (insert_node stands u new f) ≡ count m f + indicator m u
     count-insert m nil prev p x e = omega arith
     count-insert m (node n r c s) prev p x e = go (stands r) refl (count-insert m s n p x)
       where
-        go : (o : Ordering) → stands r ≡ o → (seek_node stands n s ≡ Between p x → count m (insert_node stands u new s) ≡ count m s + indicator m u)
+        go : (o : Ordering) → stands r ≡ o → (seek_node stands n s ≡ between p x → count m (insert_node stands u new s) ≡ count m s + indicator m u)
             → count m (insert_node stands u new (node n r c s)) ≡ count m (node n r c s) + indicator m u
         go Ordering.lt q ih = rw q (omega (arith, ih (rw q at e)))
         go Ordering.eq q ih = never_both n p x (rw q at e)
@@ -78,23 +76,23 @@ module _ (stands : Record → Ordering) where
       abbrev pub KeptBut : Nodes → ℕ → Type 0
       KeptBut f p = (m w : ℕ) → w < record_width → 0 < count m f → (m ≡ p → w ≢ next_word) → word ws' m w ≡ word ws m w
 
-      pub insert-represents : (f : Nodes) (prev p x : ℕ) → seek_node stands prev f ≡ Between p x → Represents ws f
+      pub insert-represents : (f : Nodes) (prev p x : ℕ) → seek_node stands prev f ≡ between p x → Represents ws f
           → ((m : ℕ) → count m f ≤ 1) → count prev f ≡ 0 → Row ws' u new 0 x → KeptBut f p → (0 < count p f → word ws' p next_word ≡ u)
           → Inserted f prev p
       insert-represents nil prev p x e k d z fresh kept set =
-          let f : Between prev 0 ≡ Between p x = e in
-          let l : p ≡ prev = cc in
-          let g : x ≡ 0 = cc in
+          let f : between prev 0 ≡ between p x = e in
+          let l : p ≡ prev = sym (between-same f).0 in
+          let g : x ≡ 0 = sym (between-same f).1 in
           ((record { fixed = fresh.fixed; child-is = fresh.child-is; next-is = fresh.next-is ∙ g }, tt, tt), rw (eq-eqb p prev l))
       insert-represents (node m r c s) prev p x e k d z fresh kept set = go (stands r) refl (insert-represents s m p x)
         where
           go : (o : Ordering) → stands r ≡ o
-              → (seek_node stands m s ≡ Between p x → Represents ws s → ((n : ℕ) → count n s ≤ 1) → count m s ≡ 0
+              → (seek_node stands m s ≡ between p x → Represents ws s → ((n : ℕ) → count n s ≤ 1) → count m s ≡ 0
               → Row ws' u new 0 x → KeptBut s p → (0 < count p s → word ws' p next_word ≡ u) → Inserted s m p)
               → Inserted (node m r c s) prev p
           go Ordering.lt q ih = rw q ((row (ℕ_discrete p m), frame ws ws' c (λ n w l g. kept n w l (omega arith) (λ a b. apart n g a)) k.1, i.0), head)
             where
-              e' : seek_node stands m s ≡ Between p x
+              e' : seek_node stands m s ≡ between p x
               e' = rw q at e
 
               i : Inserted s m p
@@ -128,9 +126,9 @@ module _ (stands : Record → Ordering) where
                   }
           go Ordering.eq q ih = never_both m p x (rw q at e)
           go Ordering.gt q ih =
-              let f : Between prev m ≡ Between p x = rw q at e in
-              let l : p ≡ prev = cc in
-              let g : x ≡ m = cc in
+              let f : between prev m ≡ between p x = rw q at e in
+              let l : p ≡ prev = sym (between-same f).0 in
+              let g : x ≡ m = sym (between-same f).1 in
               rw q (
                 (
                   record { fixed = fresh.fixed; child-is = fresh.child-is; next-is = fresh.next-is ∙ g },

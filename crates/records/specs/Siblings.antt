@@ -1,10 +1,9 @@
 -- Lists of siblings, and the position of a key in one.
 use Prim.Native.Nat.{ℕ, zero, suc, ◌<◌, ◌≤◌, Ordering}
-use Rattle.std.specs.Prelude.{◌≡◌, List, [], ◌∷◌, length}
+use Rattle.std.specs.Prelude.{◌≡◌, List, [], ◌∷◌, length, Result, Ok, Err}
 use Rattle.key.specs.Keys.{Key}
 use Rattle.key.specs.KeyOrder.{compare_keys, choose}
-use Rattle.records.specs.declared.siblings.Position.{Position}
-use Rattle.records.specs.declared.siblings.Position.TheVariants.{Found, Between}
+use Rattle.records.specs.declared.siblings.Gap.{Gap}
 use Rattle.row.specs.Row.{child_word, next_word}
 use Rattle.row.specs.Words.{record_count, word}
 use Rattle.records.specs.Records.{key_words_at}
@@ -30,10 +29,20 @@ last_of d (m ∷ ms) = last_of m ms
 abbrev pub standing : List ℕ → List ℕ → Key → ℕ → Ordering
 standing ws text k n = compare_keys (key_at ws text n) k
 
+-- Where a key stands among siblings: at one, or between two, 0 standing for none.
+abbrev pub Position : Type 0
+Position = Result ℕ Gap
+
+abbrev pub found : ℕ → Position
+found m = Ok m
+
+abbrev pub between : ℕ → ℕ → Position
+between prev next = Err (record { prev = prev; next = next })
+
 -- The position in a list of siblings, each of which stands somewhere to the key, behind prev.
 unfoldable pub seek : (ℕ → Ordering) → ℕ → List ℕ → Position
-seek stands prev [] = Between prev 0
-seek stands prev (m ∷ ms) = choose (stands m) (seek stands m ms) (Found m) (Between prev m)
+seek stands prev [] = between prev 0
+seek stands prev (m ∷ ms) = choose (stands m) (seek stands m ms) (found m) (between prev m)
 
 -- The position of the key k among the children of record n.
 abbrev pub position : List ℕ → List ℕ → Key → ℕ → Position

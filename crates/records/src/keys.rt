@@ -2,31 +2,18 @@
 // by its tag (crate tags).
 ghost use Rattle.std.specs.Prelude.{◌≡◌, ◌≢◌, true, false, length};
 ghost use Prim.Native.Nat.{Ordering as NatOrdering};
-ghost use Prim.Native.Nat.{◌+◌, ◌<◌, ◌≤◌, compare};
+ghost use Prim.Native.Nat.{◌+◌, ◌<◌, ◌≤◌};
 ghost use Rattle.decode.specs.Decoding.{decoded};
 ghost use Rattle.row.specs.Row.{key_kind_word, int_key_kind};
 ghost use Rattle.row.specs.Words.{record_count, word, text_part};
 ghost use Rattle.key.specs.KeyOrder.{compare_bytes, compare_keys};
 ghost use Rattle.key.specs.Keys.{Key, str, int as int_key};
 ghost use Rattle.tags.specs.Tags.{ordering_of, tag_of, Sought};
-ghost use Rattle.records.specs.Keys.{key_at, InText, of_int, int_of, unescaped, sought_key};
+ghost use Rattle.records.specs.Keys.{key_at, InText, unescaped, sought_key};
 ghost use Rattle.records.specs.Records.{key_words_at};
 
 use key::KeyKind;
-pub use tags::Ordering;
-
-// The order of two Ints.
-fn compare_ints(a: u32, b: u32) -> Ordering
-    ensures { ordering_of result ≡ compare a b }
-{
-    if a < b {
-        return Ordering::Less;
-    }
-    if b < a {
-        return Ordering::Greater;
-    }
-    Ordering::Equal
-}
+use std::cmp::Ordering;
 
 // The order of some bytes and those that a raw segment decodes to. The segment is decoded on the way and nothing is
 // written, so that a key that is there already is found however little text is left.
@@ -83,31 +70,9 @@ fn compare_int(words: &[u32], text: &[u8], n: u32, int: u32) -> Ordering
     ensures { ordering_of result ≡ compare_keys (key_at words.now text.now n) (int_key int) }
 {
     if row::get_word(words, n, row::KEY_KIND) == row::INT_KEY {
-        compare_ints(row::get_word(words, n, row::KEY), int)
+        row::get_word(words, n, row::KEY).cmp(&int)
     } else {
         Ordering::Greater
-    }
-}
-
-// Whether a key is an Int.
-pub fn is_int(key: KeyKind) -> bool
-    ensures { result ≡ of_int key }
-{
-    match key {
-        KeyKind::None => false,
-        KeyKind::Int(_) => true,
-        KeyKind::String => false,
-    }
-}
-
-// The value of an Int key, 0 of another.
-fn int_of(key: KeyKind) -> u32
-    ensures { result ≡ int_of key }
-{
-    match key {
-        KeyKind::None => 0,
-        KeyKind::Int(int) => int,
-        KeyKind::String => 0,
     }
 }
 
@@ -125,10 +90,10 @@ pub(crate) fn compare_key(
     ensures { ordering_of result ≡ compare_keys (key_at words.now text.now n)
         (sought_key key escaped bytes.now) }
 {
-    if is_int(key) {
-        return compare_int(words, text, n, int_of(key));
+    match key {
+        KeyKind::Int(int) => compare_int(words, text, n, int),
+        KeyKind::None | KeyKind::String => compare_string(words, text, n, bytes, escaped),
     }
-    compare_string(words, text, n, bytes, escaped)
 }
 
 // The tag of record n's key.
@@ -149,10 +114,10 @@ pub fn tag_of(key: KeyKind, text: &[u8], start: usize, len: usize) -> u64
     requires { start + len ≤ length text.now }
     ensures { result ≡ tag_of (sought_key key false (text_part text.now start len)) }
 {
-    if is_int(key) {
-        return int_of(key) as u64;
+    match key {
+        KeyKind::Int(int) => u64::from(int),
+        KeyKind::None | KeyKind::String => tags::STRING_TAG + tags::head(text, start, len) / 2,
     }
-    tags::STRING_TAG + tags::head(text, start, len) / 2
 }
 
 // Where the key of record n, a String, stands to another.
@@ -176,14 +141,14 @@ pub fn compare_tagged(words: &[u32], text: &[u8], n: u32, tag: u64, name: &[u8])
 {
     let t = tag_at(words, text, n);
     if t != tag {
-        return tags::compare_numbers(t, tag);
+        return t.cmp(&tag);
     }
     if tag < tags::STRING_TAG {
         return Ordering::Equal;
     }
     let len = row::get_word(words, n, row::KEY_LEN) as usize;
-    if (len < 8) & (name.len() < 8) {
-        return tags::compare_numbers(len as u64, name.len() as u64);
+    if len < 8 && name.len() < 8 {
+        return len.cmp(&name.len());
     }
     compare_long(words, text, n, name)
 }
@@ -208,11 +173,7 @@ fn has_int(words: &[u32], text: &[u8], n: u32, int: u32) -> bool
     ensures { result ≡ true → compare_keys (key_at words.now text.now n) (int_key int)
         ≡ NatOrdering.eq }
 {
-    match compare_int(words, text, n, int) {
-        Ordering::Less => false,
-        Ordering::Equal => true,
-        Ordering::Greater => false,
-    }
+    compare_int(words, text, n, int).is_eq()
 }
 
 // Whether record n's key is the one that is looked for: an Int, or else a String of those bytes.
@@ -221,8 +182,8 @@ pub fn has_key(words: &[u32], text: &[u8], n: u32, key: KeyKind, name: &[u8]) ->
     ensures { result ≡ true → compare_keys (key_at words.now text.now n)
         (sought_key key false name.now) ≡ NatOrdering.eq }
 {
-    if is_int(key) {
-        return has_int(words, text, n, int_of(key));
+    match key {
+        KeyKind::Int(int) => has_int(words, text, n, int),
+        KeyKind::None | KeyKind::String => has_string(words, text, n, name),
     }
-    has_string(words, text, n, name)
 }

@@ -6,17 +6,20 @@ ghost use Rattle.records.specs.Siblings.{chain, children, standing, seek, positi
 ghost use Rattle.records.specs.Siblings.{ChainEnds, Linked, WellFormed, ForSome};
 ghost use Rattle.records.specs.Records.{linked, inserted};
 
-use crate::keys::Ordering;
 use crate::store::Record;
 use crate::{keys, store};
 use key::KeyKind;
+use std::cmp::Ordering;
 
-// Where a key stands among the children of a map: at a child, or between two, 0 standing for none.
+// A gap among the children of a record, between two of them, 0 standing for none as in their links.
 #[derive(Clone, Copy)]
-pub enum Position {
-    Found(u32),
-    Between(u32, u32),
+pub struct Gap {
+    pub prev: u32,
+    pub next: u32,
 }
+
+// Where a key stands among the children of a map: at a child, or in a gap.
+pub type Position = Result<u32, Gap>;
 
 // The position of a key among the siblings from `first` on, of which `before` is the one before the first.
 fn walk(
@@ -42,14 +45,14 @@ fn walk(
                 cur = row::get_word(words, cur, row::NEXT);
             }
             Ordering::Equal => {
-                return Position::Found(cur);
+                return Ok(cur);
             }
             Ordering::Greater => {
-                return Position::Between(prev, cur);
+                return Err(Gap { prev, next: cur });
             }
         }
     }
-    Position::Between(prev, 0)
+    Err(Gap { prev, next: 0 })
 }
 
 // The position of a key among the children of a record. Beside a String key stand its bytes, which are to be decoded
@@ -105,13 +108,13 @@ fn link(words: &mut [u32], parent: u32, prev: u32, new: u32)
     }
 }
 
-// Puts a new record, whose number is the count of those used, between prev and next among the children of parent.
-// Nothing else changes.
-pub fn insert(words: &mut [u32], used: u32, parent: u32, prev: u32, next: u32, new: Record)
+// Puts a new record, whose number is the count of those used, in a gap among the children of parent. Nothing else
+// changes.
+pub fn insert(words: &mut [u32], used: u32, parent: u32, gap: Gap, new: Record)
     requires { (used < record_count words.old) × (parent < record_count words.old)
-        × (prev < record_count words.old) }
-    ensures { words.new ≡ inserted words.old used parent prev next new }
+        × (gap.prev < record_count words.old) }
+    ensures { words.new ≡ inserted words.old used parent gap.prev gap.next new }
 {
-    store::write_record(words, used, new, next);
-    link(words, parent, prev, used);
+    store::write_record(words, used, new, gap.next);
+    link(words, parent, gap.prev, used);
 }

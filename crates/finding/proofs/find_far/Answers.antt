@@ -12,19 +12,19 @@ pub find_by_fingers-position-requires : goal.find_by_fingers-position-requires
 find_by_fingers-position-requires c =
     record { asked = asked-kept c.requires.asked c.look_near.ensures; aided = c.requires.aided }
 
-pub returns-in-At : goal.returns-in-At
-returns-in-At c =
+pub returns-in-Some : goal.returns-in-Some
+returns-in-Some c =
     record {
-      position = c.settle.ensures.position ∙ tell _ _ _ c.try_first.ensures c.in-At.is ∙ asked-position
+      position = c.settle.ensures.position ∙ tell _ _ _ c.try_first.ensures c.in-Some.is ∙ asked-position
           c.requires.asked c.look_near.ensures _;
       kept = kept_trans c.look_near.ensures c.settle.ensures.kept;
     }
 
-pub returns-in-Further : goal.returns-in-Further
-returns-in-Further c =
+pub returns-in-None : goal.returns-in-None
+returns-in-None c =
     record {
-      position = c.settle-in-Further.ensures.position ∙ c.find_by_fingers-position.ensures.position ∙ asked-position c.requires.asked
+      position = c.settle-in-None.ensures.position ∙ c.find_by_fingers-position.ensures.position ∙ asked-position c.requires.asked
           c.look_near.ensures _;
       kept = kept_trans c.look_near.ensures
-          (kept_trans c.find_by_fingers-position.ensures.kept c.settle-in-Further.ensures.kept);
+          (kept_trans c.find_by_fingers-position.ensures.kept c.settle-in-None.ensures.kept);
     }

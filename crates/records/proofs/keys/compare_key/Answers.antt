@@ -1,14 +1,9 @@
 -- Each kind calls its own comparison.
-use mathlib.Core.Path.{sym, ◌∙◌}
-use Rattle.records.specs.Keys.{sought_key}
+use Rattle.records.proofs.Comparing.{sought-int, sought-string}
 use Rattle.records.proofs.keys.compare_key.Goals as goal
 
-pub returns-then-is_int : goal.returns-then-is_int
-unfolding sought_key
-returns-then-is_int c =
-    rw (sym c.is_int.ensures ∙ c.if-is_int.true) (rw c.int_of.ensures at c.compare_int.ensures)
+pub returns-in-Int : goal.returns-in-Int
+returns-in-Int c = rw (sought-int c.args.escaped c.args.bytes.now c.in-Int.is) c.compare_int.ensures
 
-pub returns : goal.returns
-unfolding sought_key
-returns c =
-    rw (sym c.is_int.ensures ∙ c.if-is_int.false) c.compare_string.ensures
+pub returns-in-None : goal.returns-in-None
+returns-in-None c = rw (sought-string c.args.escaped c.args.bytes.now c.in-None.is) c.compare_string.ensures

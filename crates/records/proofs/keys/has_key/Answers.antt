@@ -1,12 +1,10 @@
--- By whether the key is an Int.
-use mathlib.Core.Path.{sym, ◌∙◌}
-use Rattle.records.specs.Keys.{sought_key}
+-- Each kind calls its own test.
+use Rattle.std.proofs.Common.{false}
+use Rattle.records.proofs.Comparing.{sought-int, sought-string}
 use Rattle.records.proofs.keys.has_key.Goals as goal
 
-pub returns-then-is_int : goal.returns-then-is_int
-unfolding sought_key
-returns-then-is_int c = rw (sym c.is_int.ensures ∙ c.if-is_int.true, sym c.int_of.ensures) c.has_int.ensures
+pub returns-in-Int : goal.returns-in-Int
+returns-in-Int c = rw (sought-int false c.args.name.now c.in-Int.is) c.has_int.ensures
 
-pub returns : goal.returns
-unfolding sought_key
-returns c = rw (sym c.is_int.ensures ∙ c.if-is_int.false) c.has_string.ensures
+pub returns-in-None : goal.returns-in-None
+returns-in-None c = rw (sought-string false c.args.name.now c.in-None.is) c.has_string.ensures

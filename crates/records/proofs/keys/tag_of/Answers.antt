@@ -1,16 +1,15 @@
 -- An Int is its own tag, and any other key is a String.
-use mathlib.Core.Path.{sym, ap, ◌∙◌}
-use Prim.Native.Nat.{◌+◌, ◌/◌}
+use Rattle.std.proofs.Common.{◌+◌, ◌/◌, ap, false}
+use Rattle.row.specs.Words.{text_part}
 use Rattle.tags.specs.Tags.{string_tag}
-use Rattle.records.specs.Keys.{sought_key}
+use Rattle.records.proofs.Comparing.{sought-int, sought-string}
 use Rattle.records.proofs.keys.tag_of.Goals as goal
 
-pub returns-then-is_int : goal.returns-then-is_int
-unfolding sought_key
-returns-then-is_int c =
-    rw (sym c.is_int.ensures ∙ c.if-is_int.true) c.int_of.ensures
+pub returns-in-Int : goal.returns-in-Int
+returns-in-Int c =
+    rw (sought-int false (text_part c.args.text.now c.args.start c.args.len) c.in-Int.is) c.from.ensures
 
-pub returns : goal.returns
-unfolding sought_key
-returns c =
-    rw (sym c.is_int.ensures ∙ c.if-is_int.false) (ap (λ h. string_tag + h / 2) c.head.ensures)
+pub returns-in-None : goal.returns-in-None
+returns-in-None c =
+    rw (sought-string false (text_part c.args.text.now c.args.start c.args.len) c.in-None.is)
+    (ap (λ h. string_tag + h / 2) c.head.ensures)

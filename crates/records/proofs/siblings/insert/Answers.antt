@@ -7,5 +7,5 @@ use Rattle.records.proofs.siblings.insert.Goals as goal
 
 pub returns : goal.returns
 returns c =
-    c.link.ensures ∙ ap (λ (ws : List ℕ). linked ws c.args.parent c.args.prev c.args.used)
+    c.link.ensures ∙ ap (λ (ws : List ℕ). linked ws c.args.parent c.args.gap.prev c.args.used)
     c.write_record.ensures
