@@ -11,7 +11,7 @@ use Rattle.row.specs.Row.{child_word, next_word}
 use Rattle.row.specs.Words.{record_count, word}
 use Rattle.records.specs.Keys.{key_at}
 use Rattle.records.specs.Siblings.{chain, children, last_of, standing, seek, found, between, position, Within, ChainEnds, Linked, WellFormed}
-use Rattle.finding.specs.Aids.{first_of, ChildOf, Gap, InOrder}
+use Rattle.finding.specs.Aids.{first_of, ChildOf, IsGap, InOrder}
 use Rattle.records.proofs.Chains.{chain-end, step, is_record, ends_next, children-end, last_within, never_both, between-same}
 use Rattle.records.specs.Siblings.{Walking}
 
@@ -155,13 +155,13 @@ seek_parts stands d (m ∷ ms) prev next e = go (stands m) refl (seek_parts stan
         record { before = []; behind = m ∷ ms; splits = refl; prev_is = sym same.0; next-is = sym same.1 }
 
 -- Where a key is found between two children there is room for it.
-pub gap_position : (ws text : List ℕ) (k : Key) (n prev next : ℕ) → position ws text k n ≡ between prev next → Gap ws n prev next
+pub gap_position : (ws text : List ℕ) (k : Key) (n prev next : ℕ) → position ws text k n ≡ between prev next → IsGap ws n prev next
 gap_position ws text k n prev next e =
     let r = seek_parts (standing ws text k) 0 (children ws n) prev next e in
     record { before = r.before; behind = r.behind; splits = r.splits; prev_is = r.prev_is; next-is = r.next-is }
 
 -- And behind the last.
-pub gap_last : (ws : List ℕ) (n : ℕ) → Gap ws n (last_of 0 (children ws n)) 0
+pub gap_last : (ws : List ℕ) (n : ℕ) → IsGap ws n (last_of 0 (children ws n)) 0
 gap_last ws n = record { before = children ws n; behind = []; splits = sym (append-nil (children ws n)); prev_is = refl; next-is = refl }
 
 within-front : (lo hi : ℕ) (before behind : List ℕ) → Within lo hi (before ++ behind) → Within lo hi before
@@ -169,7 +169,7 @@ within-front lo hi [] behind h = tt
 within-front lo hi (m ∷ ms) behind h = (h.0, h.1, within-front lo hi ms behind h.2)
 
 -- What stands before it is a record used.
-pub gap_prev : {ws : List ℕ} {used : ℕ} → Linked ws used → {n prev next : ℕ} → n < used → Gap ws n prev next → prev < used
+pub gap_prev : {ws : List ℕ} {used : ℕ} → Linked ws used → {n prev next : ℕ} → n < used → IsGap ws n prev next → prev < used
 gap_prev {ws} {used} l {n} i g =
     rw g.prev_is
     (last_within n used 0 g.before (omega arith) (within-front n used g.before g.behind (rw g.splits at (l.rising n i))))

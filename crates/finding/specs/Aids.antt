@@ -22,7 +22,7 @@ pub record ChildOf (ws : List ℕ) (n c : ℕ) : Type 0 where
   pub splits : children ws n ≡ before ++ (c ∷ behind)
 
 -- Between prev and next there is room for a child of record n, 0 standing for none.
-pub record Gap (ws : List ℕ) (n prev next : ℕ) : Type 0 where
+pub record IsGap (ws : List ℕ) (n prev next : ℕ) : Type 0 where
   pub before : List ℕ
   pub behind : List ℕ
   pub splits : children ws n ≡ before ++ behind

@@ -11,17 +11,14 @@ use Rattle.key.specs.Keys.{str}
 use Rattle.row.specs.Row.{kind_word, uninitialized_kind, map_kind, sequence_kind}
 use Rattle.row.specs.Words.{record_count, word}
 use Rattle.aids.specs.Kept.{free_from, Kept}
-use Rattle.indexed.specs.declared.appending.Appended.{Appended}
-use Rattle.indexed.specs.declared.appending.Appended.TheVariants.{Used, TooFew}
-use Rattle.records.specs.declared.siblings.Position.{Position}
-use Rattle.records.specs.declared.siblings.Position.TheVariants.{Found, Between}
+use Rattle.std.specs.Prelude.{Option, Some, None}
 use Rattle.records.specs.declared.store.ValueWords.{ValueWords}
 use Rattle.records.specs.declared.store.Record.{Record}
 use Rattle.records.specs.Records.{value_at, with_value, inserted}
-use Rattle.records.specs.Siblings.{children, standing, position}
+use Rattle.records.specs.Siblings.{children, standing, Position, position, found, between}
 use Rattle.aids.specs.declared.Among.{Among}
 use Rattle.aids.proofs.Keeps.{kept_refl, kept_trans}
-use Rattle.finding.specs.Aids.{Gap, Ready, Grown}
+use Rattle.finding.specs.Aids.{IsGap, Ready, Grown}
 use Rattle.indexed.specs.Adding.{Leaves, enough, few, Appends, if_room, unkeyed, childless}
 use Rattle.indexed.specs.Adding.{sequence_of_two, pushed, paired, appended_here, child_added, appended}
 use Rattle.records.proofs.Chains.{found_within}
@@ -34,10 +31,10 @@ module _ (ws : List ℕ) (count : ℕ) {b : Bool} (e : b ≡ leb count (record_c
   pub room : b ≡ true → count ≤ record_count ws
   room t = leb-true count (record_count ws) (sym e ∙ t)
 
-  pub with_room : (ws1 : List ℕ) {ws' : List ℕ} {aids : ℕ} → b ≡ true → Grown ws1 aids count ws' → Leaves (if_room ws count ws1) aids ws' (Used count)
+  pub with_room : (ws1 : List ℕ) {ws' : List ℕ} {aids : ℕ} → b ≡ true → Grown ws1 aids count ws' → Leaves (if_room ws count ws1) aids ws' (Some count)
   with_room ws1 t g = rw (sym e ∙ t) (enough refl g)
 
-  pub no_room : (ws1 : List ℕ) {ws' : List ℕ} {aids : ℕ} → b ≡ false → Leaves (if_room ws count ws1) aids ws' TooFew
+  pub no_room : (ws1 : List ℕ) {ws' : List ℕ} {aids : ℕ} → b ≡ false → Leaves (if_room ws count ws1) aids ws' None
   no_room ws1 t = rw (sym e ∙ t) (few refl)
 
 -- The calls that insert.
@@ -54,11 +51,11 @@ module _ (ws : List ℕ) (used n : ℕ) (v : ValueWords) {kind : ℕ} (e : kind 
 
   module _ {aids : ℕ} where
     pub at_uninitialized : kind ≡ uninitialized_kind → {ws' : List ℕ} → Grown (with_value ws n v) aids used ws'
-        → Leaves (appended_here ws used n v) aids ws' (Used used)
+        → Leaves (appended_here ws used n v) aids ws' (Some used)
     unfolding appended_here
     at_uninitialized z g = rw (eq-eqb (word ws n kind_word) uninitialized_kind (sym e ∙ z)) (enough refl g)
 
-    module _ (z : kind ≢ uninitialized_kind) {ws' : List ℕ} {r : Appended} where
+    module _ (z : kind ≢ uninitialized_kind) {ws' : List ℕ} {r : Option ℕ} where
       pub at-sequence : kind ≡ sequence_kind → Leaves (pushed ws used n v) aids ws' r → Leaves (appended_here ws used n v) aids ws' r
       unfolding appended_here
       at-sequence s q =
@@ -73,15 +70,15 @@ module _ (ws : List ℕ) (used n : ℕ) (v : ValueWords) {kind : ℕ} (e : kind 
 -- The rule at a record.
 module _ {ws text : List ℕ} {used aids : ℕ} (r : Ready ws text used aids) where
   -- The child that has the empty key has a greater number.
-  found_inside : (n : ℕ) → n < used → (m : ℕ) → position ws text (str []) n ≡ Found m → (n < m) × (m < used)
+  found_inside : (n : ℕ) → n < used → (m : ℕ) → position ws text (str []) n ≡ found m → (n < m) × (m < used)
   found_inside n l m q = found_within (standing ws text (str [])) n used 0 m (children ws n) q ((ready-linked r).rising n l)
 
   -- What it leaves, for whatever fuel suffices.
-  module _ (v : ValueWords) (ws' : List ℕ) (a : Appended) where
+  module _ (v : ValueWords) (ws' : List ℕ) (a : Option ℕ) where
     abbrev pub Right : ℕ → Type 0
     Right m = (fuel : ℕ) → record_count ws - m ≤ fuel → Leaves (appended fuel ws text used m v) aids ws' a
 
-    at-child : (n m : ℕ) → n < used → word ws n kind_word ≡ map_kind → position ws text (str []) n ≡ Found m → Right m → Right n
+    at-child : (n m : ℕ) → n < used → word ws n kind_word ≡ map_kind → position ws text (str []) n ≡ found m → Right m → Right n
     unfolding appended
     at-child n m l e q h zero i = absurd (omega (arith, (ready-linked r).room))
     at-child n m l e q h (suc fuel) i =
@@ -92,7 +89,7 @@ module _ {ws text : List ℕ} {used aids : ℕ} (r : Ready ws text used aids) wh
     at_other m l z h zero i = absurd (omega (arith, (ready-linked r).room))
     at_other m l z h (suc fuel) i = rw (ne_eqb (word ws m kind_word) map_kind z) h
 
-    at_new_child : (m p x : ℕ) → m < used → word ws m kind_word ≡ map_kind → position ws text (str []) m ≡ Between p x
+    at_new_child : (m p x : ℕ) → m < used → word ws m kind_word ≡ map_kind → position ws text (str []) m ≡ between p x
         → Leaves (child_added ws used m p x v) aids ws' a → Right m
     unfolding appended
     at_new_child m p x l e q h zero i = absurd (omega (arith, (ready-linked r).room))
@@ -100,7 +97,7 @@ module _ {ws text : List ℕ} {used aids : ℕ} (r : Ready ws text used aids) wh
 
 -- The ways of `append`, at the parent.
 module _ {ws text : List ℕ} {among : Among} (r : Ready ws text among.used among.aids) (i : among.parent < among.used) where
-  pub append_other : (v : ValueWords) {ws' : List ℕ} {a : Appended} → word ws among.parent kind_word ≢ map_kind
+  pub append_other : (v : ValueWords) {ws' : List ℕ} {a : Option ℕ} → word ws among.parent kind_word ≢ map_kind
       → Leaves (appended_here ws among.used among.parent v) among.aids ws' a → Appends ws text among v ws' a
   append_other v {ws'} {a} z h = record { before = ws; kept = kept_refl _ ws; leaves = at_other r v ws' a among.parent i z h }
 
@@ -114,27 +111,27 @@ module _ {ws text : List ℕ} {among : Among} (r : Ready ws text among.used amon
     place_still j p q =
         position-kept j among.used (omega (arith, r.aided.below)) (ready-linked r) text (str []) among.parent i ∙ sym f ∙ q
 
-    pub child-inside : {c : ℕ} → y ≡ Found c → (among.parent < c) × (c < among.used)
+    pub child-inside : {c : ℕ} → y ≡ found c → (among.parent < c) × (c < among.used)
     child-inside {c} q = found_inside r among.parent i c (sym f ∙ q)
 
-    pub append-child : (v : ValueWords) {ws' : List ℕ} {a : Appended} {c : ℕ} → y ≡ Found c
+    pub append-child : (v : ValueWords) {ws' : List ℕ} {a : Option ℕ} {c : ℕ} → y ≡ found c
         → Appends w text (record { parent = c; used = among.used; aids = among.aids }) v ws' a → Appends ws text among v ws' a
     append-child v {ws'} {a} {c} q h =
         let j = kept_trans k h.kept in
         record {
           before = h.before;
           kept = j;
-          leaves = at-child (ready-kept r j) v ws' a among.parent c i (map-still j) (place_still j (Found c) q) h.leaves;
+          leaves = at-child (ready-kept r j) v ws' a among.parent c i (map-still j) (place_still j (found c) q) h.leaves;
         }
 
-    pub append_gap : {p x : ℕ} → y ≡ Between p x → Gap w among.parent p x
-    append_gap {p} {x} q = gap_position w text (str []) among.parent p x (place_still k (Between p x) q)
+    pub append_gap : {p x : ℕ} → y ≡ between p x → IsGap w among.parent p x
+    append_gap {p} {x} q = gap_position w text (str []) among.parent p x (place_still k (between p x) q)
 
-    pub append_new : (v : ValueWords) {ws' : List ℕ} {a : Appended} {p x : ℕ} → y ≡ Between p x
+    pub append_new : (v : ValueWords) {ws' : List ℕ} {a : Option ℕ} {p x : ℕ} → y ≡ between p x
         → Leaves (child_added w among.used among.parent p x v) among.aids ws' a → Appends ws text among v ws' a
     append_new v {ws'} {a} {p} {x} q h =
         record {
           before = w;
           kept = k;
-          leaves = at_new_child (ready-kept r k) v ws' a among.parent p x i (map-still k) (place_still k (Between p x) q) h;
+          leaves = at_new_child (ready-kept r k) v ws' a among.parent p x i (map-still k) (place_still k (between p x) q) h;
         }

@@ -13,7 +13,7 @@ use Rattle.records.specs.Keys.{InText}
 use Rattle.records.specs.Siblings.{last_of}
 use Rattle.records.specs.Nodes.{Nodes, nil, node, first, size, indicator, count, Context, plug}
 use Rattle.records.specs.Holds.{Row, Represents, Rising, Holds}
-use Rattle.finding.specs.Aids.{first_of, Gap}
+use Rattle.finding.specs.Aids.{first_of, IsGap}
 use Rattle.records.proofs.Rows.{length_with_words, record_row, record_far, length-linked, linked-child, linked-next, linked_far}
 use Rattle.records.proofs.Forests.{indicator-same, indicator_other, record_kept, row_kept, frame, numbers}
 use Rattle.records.proofs.Contexts.{count_around, count-plug, unplug, replug, frame_around}
@@ -122,7 +122,7 @@ module _ (ws ws' : List ℕ) (u : ℕ) (new : Record) where
 
 -- A gap among the children of a node.
 module _ {ws text : List ℕ} {used : ℕ} (n : ℕ) (r : Record) (c s : Nodes) (a : Context) (k : Holds ws text used (plug a (node n r c s)))
-    (room : used < record_count ws) (new : Record) {p x : ℕ} (gap : Gap ws n p x) where
+    (room : used < record_count ws) (new : Record) {p x : ℕ} (gap : IsGap ws n p x) where
   abbrev old : Nodes
   old = plug a (node n r c s)
 

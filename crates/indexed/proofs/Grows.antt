@@ -21,7 +21,7 @@ use Rattle.records.specs.Keys.{InText}
 use Rattle.records.specs.Siblings.{children}
 use Rattle.records.specs.Holds.{HoldsSome}
 use Rattle.indexed.specs.Adding.{childless, sequence_of_two}
-use Rattle.finding.specs.Aids.{Gap, Aided, aids_for, Grown, Noted, NotedTwo}
+use Rattle.finding.specs.Aids.{IsGap, Aided, aids_for, Grown, Noted, NotedTwo}
 use Rattle.records.proofs.Rows.{length-linked, length_with_words}
 use Rattle.records.proofs.Held.{well-formed}
 use Rattle.finding.proofs.Keeping.{aided-kept}
@@ -84,7 +84,7 @@ module _ {ws text : List ℕ} {among : Among} (h : HoldsSome ws text among.used)
   pub grown_valued : (v : ValueWords) → Grown (with_value ws n v) among.aids u (with_value ws n v)
   grown_valued v = grown_known a.below (kept_refl _ _) (aided_valued h i v a)
 
-  pub grown_noted : {prev next : ℕ} (gap : Gap ws n prev next) (new : Record) → u < record_count ws → InText text new.key → u + 2 < 2 ^ 32
+  pub grown_noted : {prev next : ℕ} (gap : IsGap ws n prev next) (new : Record) → u < record_count ws → InText text new.key → u + 2 < 2 ^ 32
       → {ws' : List ℕ} → Noted (inserted ws u n prev next new) among ws' → Grown (inserted ws u n prev next new) among.aids (u + 1) ws'
   grown_noted gap new r t c (Noted.known on l k) =
       grown_known (omega arith)

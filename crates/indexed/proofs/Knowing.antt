@@ -19,7 +19,7 @@ use Rattle.records.specs.Siblings.{children}
 use Rattle.indexed.specs.Adding.{unkeyed, childless, sequence_of_two}
 use Rattle.records.specs.Nodes.{Nodes, nil, node, plug}
 use Rattle.records.specs.Holds.{Holds, HoldsSome}
-use Rattle.finding.specs.Aids.{parent_index, ChildOf, Gap, Aided}
+use Rattle.finding.specs.Aids.{parent_index, ChildOf, IsGap, Aided}
 use Rattle.records.proofs.Rows.{revalued, length_with_words, length-linked, value_far, record_far, linked_far}
 use Rattle.records.proofs.Forests.{numbers}
 use Rattle.records.proofs.Contexts.{At}
@@ -121,7 +121,7 @@ module _ {ws text : List ℕ} {used : ℕ} (h : HoldsSome ws text used) {n : ℕ
         (λ z c j g. absurd (omega arith)) a
 
   -- A new child in a gap, and its parent for the aids.
-  module _ {prev next : ℕ} (gap : Gap ws n prev next) (new : Record) where
+  module _ {prev next : ℕ} (gap : IsGap ws n prev next) (new : Record) where
     pub some-inserted : used < record_count ws → InText text new.key → HoldsSome (inserted ws used n prev next new) text (used + 1)
     some-inserted l t =
         record {

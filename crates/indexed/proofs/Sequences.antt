@@ -3,13 +3,12 @@ use mathlib.Core.Path.{◌≡◌, refl, subst}
 use mathlib.Core.List.{List}
 use Prim.Native.Nat.{ℕ, ◌+◌, ◌<◌, Ordering}
 use native.Mathlib.Omega.{arith}
-use Rattle.records.specs.declared.siblings.Position.TheVariants.{Between}
 use Rattle.records.specs.declared.store.ValueWords.{ValueWords}
 use Rattle.records.specs.declared.store.Record.{Record}
 use Rattle.row.specs.Row.{sequence_kind}
 use Rattle.row.specs.Words.{record_count}
 use Rattle.records.specs.Records.{value_at, with_value, inserted}
-use Rattle.records.specs.Siblings.{children, last_of}
+use Rattle.records.specs.Siblings.{children, last_of, between}
 use Rattle.indexed.specs.Adding.{unkeyed, childless, sequence_of_two}
 use Rattle.records.specs.Nodes.{Nodes, nil, node, Context, plug}
 use Rattle.records.specs.Holds.{Holds}
@@ -24,7 +23,7 @@ use Rattle.records.proofs.Valued.{value-holds}
 abbrev pub behind_all : Record → Ordering
 behind_all r = Ordering.lt
 
-last-position : (prev : ℕ) (f : Nodes) → seek_node behind_all prev f ≡ Between (last_of prev (numbers f)) 0
+last-position : (prev : ℕ) (f : Nodes) → seek_node behind_all prev f ≡ between (last_of prev (numbers f)) 0
 last-position prev nil = refl
 last-position prev (node m r c s) = last-position m s
 

@@ -1,10 +1,6 @@
 -- READING, 'Adding' (the source's `append_value`), on the words.
-use Rattle.std.specs.Prelude.{ℕ, zero, suc, ◌+◌, ◌-◌, ◌<◌, ◌≤◌, ◌^◌, ◌≡◌, cond, List, [], leb, eqb}
+use Rattle.std.specs.Prelude.{ℕ, zero, suc, ◌+◌, ◌-◌, ◌<◌, ◌≤◌, ◌^◌, ◌≡◌, cond, List, [], leb, eqb, Option, Some, None, Ok, Err}
 use Rattle.key.specs.Keys.{str}
-use Rattle.indexed.specs.declared.appending.Appended.{Appended}
-use Rattle.indexed.specs.declared.appending.Appended.TheVariants.{Used, TooFew}
-use Rattle.records.specs.declared.siblings.Position.{Position}
-use Rattle.records.specs.declared.siblings.Position.TheVariants.{Found, Between}
 use Rattle.records.specs.declared.store.ValueWords.{ValueWords}
 use Rattle.records.specs.declared.store.Record.{Record}
 use Rattle.row.specs.Row.{kind_word, uninitialized_kind, map_kind, sequence_kind, no_key_kind, string_key_kind}
@@ -13,25 +9,25 @@ use Rattle.aids.specs.declared.Among.{Among}
 use Rattle.aids.specs.Kept.{free_from, Kept}
 use Rattle.finding.specs.Aids.{Ready, Grown}
 use Rattle.records.specs.Records.{value_at, with_value, inserted}
-use Rattle.records.specs.Siblings.{children, last_of, position}
+use Rattle.records.specs.Siblings.{Position, children, last_of, position}
 
--- The words that a call leaves, and its answer.
+-- The words that a call leaves, and its answer: how many records are used then, or none where there are too few.
 pub record Change : Type 0 where
   pub words : List ℕ
-  pub answer : Appended
+  pub answer : Option ℕ
 
 -- A change was made to the words, but for those behind the aids, which are right; or there are too few records, and
 -- the words are free.
-pub data Leaves (change : Change) (aids : ℕ) (ws' : List ℕ) : Appended → Type 0 where
-  enough : {n : ℕ} → change.answer ≡ Used n → Grown change.words aids n ws' → Leaves change aids ws' (Used n)
-  few : change.answer ≡ TooFew → Leaves change aids ws' TooFew
+pub data Leaves (change : Change) (aids : ℕ) (ws' : List ℕ) : Option ℕ → Type 0 where
+  enough : {n : ℕ} → change.answer ≡ Some n → Grown change.words aids n ws' → Leaves change aids ws' (Some n)
+  few : change.answer ≡ None → Leaves change aids ws' None
 
 -- A change, if there are records enough for it: the words changed so that `count` records are used, or too few and
 -- nothing changed.
 abbrev pub if_room : List ℕ → ℕ → List ℕ → Change
 if_room ws count ws' =
-    cond (leb count (record_count ws)) (record { words = ws'; answer = Used count })
-    (record { words = ws; answer = TooFew })
+    cond (leb count (record_count ws)) (record { words = ws'; answer = Some count })
+    (record { words = ws; answer = None })
 
 -- The record of a Sequence's element: no key.
 abbrev pub unkeyed : ValueWords → Record
@@ -62,7 +58,7 @@ paired ws used n v = if_room ws (used + 2) (sequence_of_two ws used n v)
 -- The rule at a record that is no Map. One that is Uninitialized takes the value itself, and needs no other record.
 unfoldable pub appended_here : List ℕ → ℕ → ℕ → ValueWords → Change
 appended_here ws used n v =
-    cond (eqb (word ws n kind_word) uninitialized_kind) (record { words = with_value ws n v; answer = Used used })
+    cond (eqb (word ws n kind_word) uninitialized_kind) (record { words = with_value ws n v; answer = Some used })
     (cond (eqb (word ws n kind_word) sequence_kind) (pushed ws used n v)
     (paired ws used n v))
 
@@ -72,13 +68,13 @@ child_added ws used n prev next v = if_room ws (used + 1) (inserted ws used n pr
 
 -- The choice by a position.
 abbrev pub at_position : {A : Type 0} → Position → (ℕ → A) → (ℕ → ℕ → A) → A
-at_position (Found m) found between = found m
-at_position (Between prev next) found between = between prev next
+at_position (Ok m) found between = found m
+at_position (Err gap) found between = between gap.prev gap.next
 
 -- The rule at record n, which for a Map that has the empty key is the same rule at that child. Each call is at a child,
 -- whose number is greater, so that as much fuel as there are records from n on isn't used up.
 unfoldable pub appended : ℕ → List ℕ → List ℕ → ℕ → ℕ → ValueWords → Change
-appended zero ws text used n v = record { words = ws; answer = TooFew }
+appended zero ws text used n v = record { words = ws; answer = None }
 appended (suc fuel) ws text used n v =
     cond (eqb (word ws n kind_word) map_kind)
     (at_position (position ws text (str []) n) (λ m. appended fuel ws text used m v)
@@ -94,7 +90,7 @@ pub record Growable (ws : List ℕ) (among : Among) : Type 0 where
 
 -- A value was added at the parent by the rule, to words of which those that aren't free are kept. The code has no fuel:
 -- what it leaves is right for all that suffices.
-pub record Appends (ws text : List ℕ) (among : Among) (v : ValueWords) (ws' : List ℕ) (r : Appended) : Type 0 where
+pub record Appends (ws text : List ℕ) (among : Among) (v : ValueWords) (ws' : List ℕ) (r : Option ℕ) : Type 0 where
   pub before : List ℕ
   pub kept : Kept (free_from among.aids) ws before
   pub leaves : (fuel : ℕ) → record_count before - among.parent ≤ fuel

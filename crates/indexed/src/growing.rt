@@ -7,11 +7,11 @@ ghost use Rattle.records.specs.Keys.{InText};
 ghost use Rattle.records.specs.Records.{key_words_at, inserted};
 ghost use Rattle.records.specs.Siblings.{children, last_of};
 ghost use Rattle.records.specs.Holds.{HoldsSome};
-ghost use Rattle.finding.specs.Aids.{Gap, Aided, Grown, Noted, NotedTwo};
+ghost use Rattle.finding.specs.Aids.{IsGap, Aided, Grown, Noted, NotedTwo};
 ghost use Rattle.indexed.specs.Adding.{Growable};
 
 use aids::{Among, fingers};
-use finding::Walk;
+use records::siblings::Gap;
 use records::store::Record;
 use records::{keys, siblings};
 
@@ -29,10 +29,7 @@ fn below_aids(records: usize) -> u32
         return aids::NO_AIDS;
     }
     let below = records - records / 3;
-    if below < MOST {
-        return below as u32;
-    }
-    MOST as u32
+    below.min(MOST) as u32
 }
 
 // Makes the aids ready for words in which only record 0 is used.
@@ -53,11 +50,9 @@ fn note_child(words: &mut [u32], text: &[u8], among: Among)
     requires inside { (among.used < record_count words.old) × InText text.now (key_words_at words.old among.used) }
     ensures { Noted words.old among words.new }
 {
-    if among.aids != aids::NO_AIDS {
-        if among.used < among.aids {
-            let tag = keys::tag_at(words, text, among.used);
-            finding::know_child(words, text, among, tag, among.used);
-        }
+    if among.aids != aids::NO_AIDS && among.used < among.aids {
+        let tag = keys::tag_at(words, text, among.used);
+        finding::know_child(words, text, among, tag, among.used);
     }
 }
 
@@ -66,10 +61,8 @@ fn note_last(words: &mut [u32], among: Among)
     requires { among.aids ≢ no_aids → free_from among.aids ≤ length words.old }
     ensures { Noted words.old among words.new }
 {
-    if among.aids != aids::NO_AIDS {
-        if among.used < among.aids {
-            finding::know_last(words, among, among.used);
-        }
+    if among.aids != aids::NO_AIDS && among.used < among.aids {
+        finding::know_last(words, among, among.used);
     }
 }
 
@@ -79,23 +72,21 @@ pub(crate) fn note_two(words: &mut [u32], among: Among)
     requires countable { among.used + 2 < 2 ^ 32 }
     ensures { NotedTwo words.old among words.new }
 {
-    if among.aids != aids::NO_AIDS {
-        if among.used + 1 < among.aids {
-            finding::know_two(words, among, among.used);
-        }
+    if among.aids != aids::NO_AIDS && among.used + 1 < among.aids {
+        finding::know_two(words, among, among.used);
     }
 }
 
 // Puts in a child of a Map, in a gap among its children, after its key was looked for.
-pub fn insert_child(words: &mut [u32], text: &[u8], among: Among, gap: Walk, new: Record)
+pub fn insert_child(words: &mut [u32], text: &[u8], among: Among, gap: Gap, new: Record)
     requires held { HoldsSome words.old text.now among.used × Aided words.old among.used among.aids
-        × Gap words.old among.parent gap.prev gap.cur }
+        × IsGap words.old among.parent gap.prev gap.next }
     requires inside { (among.parent < among.used)
         × (among.used < record_count words.old) × (among.used + 2 < 2 ^ 32) × InText text.now new.key }
-    ensures { Grown (inserted words.old among.used among.parent gap.prev gap.cur new)
+    ensures { Grown (inserted words.old among.used among.parent gap.prev gap.next new)
         among.aids (among.used + 1) words.new }
 {
-    siblings::insert(words, among.used, among.parent, gap.prev, gap.cur, new);
+    siblings::insert(words, among.used, among.parent, gap, new);
     note_child(words, text, among);
 }
 
@@ -109,6 +100,6 @@ pub(crate) fn insert_last(words: &mut [u32], among: Among, new: Record)
         among.aids (among.used + 1) words.new }
 {
     let prev = finding::last_child(words, among);
-    siblings::insert(words, among.used, among.parent, prev, 0, new);
+    siblings::insert(words, among.used, among.parent, Gap { prev, next: 0 }, new);
     note_last(words, among);
 }

@@ -4,18 +4,9 @@ use Rattle.indexed.proofs.Added.{append_other}
 use Rattle.indexed.proofs.appending.add.Goals as goal
 
 pub append-requires : goal.append-requires
-append-requires c =
-    rw c.among_of-at.ensures (c.requires.ready, (c.requires.inside.0, c.requires.inside.1))
+append-requires c = (c.requires.ready, (c.requires.inside.0, c.requires.inside.1))
 
-pub returns-then-get_word-eq-MAP : goal.returns-then-get_word-eq-MAP
-returns-then-get_word-eq-MAP c =
-    rw (c.among_of-at.ensures, c.value_of.ensures) at
-    c.append.ensures
-
-pub returns-else-get_word-eq-MAP : goal.returns-else-get_word-eq-MAP
-returns-else-get_word-eq-MAP c =
-    append_other c.requires.ready
-    c.requires.inside.0
-    c.args.value
-    (λ e. c.if-get_word-eq-MAP.false (c.get_word.ensures ∙ e))
-    c.append_here.ensures
+pub returns-then-get_word-ne-MAP : goal.returns-then-get_word-ne-MAP
+returns-then-get_word-ne-MAP c =
+    append_other c.requires.ready c.requires.inside.0 c.args.value
+    (λ e. c.if-get_word-ne-MAP.true (c.get_word.ensures ∙ e)) c.append_here.ensures

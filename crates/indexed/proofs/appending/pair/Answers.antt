@@ -10,7 +10,7 @@ pub make_sequence-requires : goal.make_sequence-requires
 make_sequence-requires c = (
   omega (arith, c.requires.growable.inside, (ready-linked c.requires.growable.ready).room),
   omega
-      (arith, room c.args.words.now _ c.has_room.ensures c.if-has_room.true),
+      (arith, room c.args.words.now _ c.has_room.ensures c.if-not-has_room.false),
   c.requires.growable.countable,
 )
 
@@ -25,16 +25,16 @@ note_two-requires c =
       countable = c.requires.growable.countable;
     }
 
-pub returns-then-has_room : goal.returns-then-has_room
+pub returns : goal.returns
 unfolding paired
-returns-then-has_room c =
-    with_room c.args.words.now _ c.has_room.ensures _ c.if-has_room.true
+returns c =
+    with_room c.args.words.now _ c.has_room.ensures _ c.if-not-has_room.false
     (grown_two c.requires.growable.ready.holds c.requires.growable.ready.aided c.requires.growable.inside
     (c.requires.growable.ready.leafy _ c.requires.growable.inside c.requires.single.0 c.requires.single.1) c.args.value
-    (omega (arith, room c.args.words.now _ c.has_room.ensures c.if-has_room.true)) c.requires.growable.countable
+    (omega (arith, room c.args.words.now _ c.has_room.ensures c.if-not-has_room.false)) c.requires.growable.countable
     (rw c.make_sequence.ensures at c.note_two.ensures))
 
-pub returns-else-has_room : goal.returns-else-has_room
+pub returns-then-not-has_room : goal.returns-then-not-has_room
 unfolding paired
-returns-else-has_room c =
-    no_room c.args.words.now _ c.has_room.ensures _ c.if-has_room.false
+returns-then-not-has_room c =
+    no_room c.args.words.now _ c.has_room.ensures _ c.if-not-has_room.true

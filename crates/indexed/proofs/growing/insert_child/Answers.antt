@@ -19,7 +19,7 @@ note_child-requires c =
     rw (
       c.insert.ensures,
       inserted-length c.args.words.now c.args.among.used c.args.among.parent
-          c.args.gap.prev c.args.gap.cur c.args.new,
+          c.args.gap.prev c.args.gap.next c.args.new,
     ) (record {
       room = λ on. c.requires.held.1.room on;
       inside = (

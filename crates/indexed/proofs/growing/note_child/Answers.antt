@@ -5,6 +5,7 @@ use Prim.Native.Nat.{◌+◌}
 use Rattle.finding.specs.Aids.{Noted}
 use Rattle.indexed.proofs.Grows.{aids_end, no_aids_lem}
 use Rattle.indexed.proofs.growing.note_child.Goals as goal
+use Rattle.indexed.proofs.growing.note_child.Goals.{else-among-ne-NO_AIDS-via-then-among-ne-NO_AIDS+else-among as reached, else-among-ne-NO_AIDS-via-else-among-ne-NO_AIDS as none}
 
 pub know_child-requires : goal.know_child-requires
 know_child-requires c =
@@ -14,9 +15,9 @@ pub returns-then-among : goal.returns-then-among
 returns-then-among c =
     Noted.known c.if-among-ne-NO_AIDS.true c.if-among.true c.know_child.ensures
 
-pub returns-else-among : goal.returns-else-among
-returns-else-among c =
-    Noted.unknown (aids_end c.args.among.aids (c.args.among.used + 1) (omega arith)) refl
-
 pub returns-else-among-ne-NO_AIDS : goal.returns-else-among-ne-NO_AIDS
-returns-else-among-ne-NO_AIDS c = Noted.unknown (no_aids_lem _ _ c.if-among-ne-NO_AIDS.false) refl
+returns-else-among-ne-NO_AIDS c =
+    elim c.else-among-ne-NO_AIDS.branch [
+      | reached w ↦ Noted.unknown (aids_end c.args.among.aids (c.args.among.used + 1) (omega arith)) refl
+      | none w ↦ Noted.unknown (no_aids_lem _ _ w.if-among-ne-NO_AIDS.false) refl
+    ]
