@@ -4,6 +4,8 @@ use Rattle.decode.specs.Decoding.{decoded}
 use Rattle.key.specs.Keys.{Key, int, str}
 use Rattle.key.specs.declared.KeyKind.{KeyKind}
 use Rattle.key.specs.declared.KeyKind.TheVariants.{None, Int, String}
+use Rattle.records.specs.declared.keys.Stored.{Stored}
+use Rattle.records.specs.declared.keys.Stored.TheVariants.{Int as StoredInt, String as StoredString}
 use Rattle.records.specs.declared.store.KeyWords.{KeyWords}
 use Rattle.row.specs.Row.{int_key_kind}
 use Rattle.row.specs.Words.{text_part}
@@ -13,6 +15,11 @@ use Rattle.records.specs.Records.{key_words_at}
 -- code, but only the children of a Map are looked through, and crate reading proves that those have keys.
 unfoldable pub stored_key : List ℕ → KeyWords → Key
 stored_key text k = cond (eqb k.kind int_key_kind) (int k.offset) (str (text_part text k.offset k.len))
+
+-- A key as the code has it.
+abbrev pub told_key : Stored → Key
+told_key (StoredInt i) = int i
+told_key (StoredString bytes) = str bytes.now
 
 -- The key of record n.
 abbrev pub key_at : List ℕ → List ℕ → ℕ → Key

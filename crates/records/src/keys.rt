@@ -6,74 +6,63 @@ ghost use Prim.Native.Nat.{◌+◌, ◌<◌, ◌≤◌};
 ghost use Rattle.decode.specs.Decoding.{decoded};
 ghost use Rattle.row.specs.Row.{key_kind_word, int_key_kind};
 ghost use Rattle.row.specs.Words.{record_count, word, text_part};
+ghost use Rattle.row.specs.Kinds.{IntKeyOf};
 ghost use Rattle.key.specs.KeyOrder.{compare_bytes, compare_keys};
 ghost use Rattle.key.specs.Keys.{Key, str, int as int_key};
 ghost use Rattle.tags.specs.Tags.{ordering_of, tag_of, Sought};
-ghost use Rattle.records.specs.Keys.{key_at, InText, unescaped, sought_key};
+ghost use Rattle.records.specs.Keys.{key_at, told_key, InText, sought_key};
 ghost use Rattle.records.specs.Records.{key_words_at};
 
+use crate::escaped::Decoding;
 use key::KeyKind;
 use std::cmp::Ordering;
+
+// The key of a record, as its words and the text hold it.
+#[derive(Clone, Copy)]
+enum Stored<'a> {
+    Int(u32),
+    String(&'a [u8]),
+}
+
+// The value of record n's key where it is an Int.
+fn int_key(words: &[u32], n: u32) -> Option<u32>
+    requires { n < record_count words.now }
+    ensures { IntKeyOf words.now n result }
+{
+    match row::KeyKind::try_from(row::get_word(words, n, row::KEY_KIND)) {
+        Ok(row::KeyKind::Int) => Some(row::get_word(words, n, row::KEY)),
+        _ => None,
+    }
+}
+
+// The bytes of record n's key, a String.
+fn name_of<'a>(words: &[u32], text: &'a [u8], n: u32) -> &'a [u8]
+    requires inside { (n < record_count words.now) × InText text.now (key_words_at words.now n) }
+    requires is_string { word words.now n key_kind_word ≢ int_key_kind }
+    ensures { key_at words.now text.now n ≡ str result.now }
+{
+    let start = row::get_word(words, n, row::KEY) as usize;
+    let end = start + row::get_word(words, n, row::KEY_LEN) as usize;
+    &text[start..end]
+}
+
+// The key of record n. All but an Int is a String.
+fn key_of<'a>(words: &[u32], text: &'a [u8], n: u32) -> Stored<'a>
+    requires { (n < record_count words.now) × InText text.now (key_words_at words.now n) }
+    ensures { key_at words.now text.now n ≡ told_key result }
+{
+    match int_key(words, n) {
+        Some(int) => Stored::Int(int),
+        None => Stored::String(name_of(words, text, n)),
+    }
+}
 
 // The order of some bytes and those that a raw segment decodes to. The segment is decoded on the way and nothing is
 // written, so that a key that is there already is found however little text is left.
 fn compare_escaped(bytes: &[u8], raw: &[u8]) -> Ordering
     ensures { ordering_of result ≡ compare_bytes bytes.now (decoded raw.now) }
 {
-    let mut i = 0;
-    let mut j = 0;
-    let mut keep = 0;
-    while j < raw.len() {
-        let s = decode::next_byte(raw, j, keep);
-        if bytes.len() <= i {
-            return Ordering::Less;
-        }
-        let x = bytes[i];
-        let y = s.byte;
-        if x < y {
-            return Ordering::Less;
-        }
-        if y < x {
-            return Ordering::Greater;
-        }
-        i += 1;
-        j = s.next;
-        keep = s.keep;
-    }
-    if i < bytes.len() {
-        Ordering::Greater
-    } else {
-        Ordering::Equal
-    }
-}
-
-// Where the key of record n stands to the String that is looked for.
-fn compare_string(words: &[u32], text: &[u8], n: u32, bytes: &[u8], escaped: bool) -> Ordering
-    requires { (n < record_count words.now) × InText text.now (key_words_at words.now n) }
-    ensures { ordering_of result ≡ compare_keys (key_at words.now text.now n)
-        (str (unescaped escaped bytes.now)) }
-{
-    if row::get_word(words, n, row::KEY_KIND) == row::INT_KEY {
-        return Ordering::Less;
-    }
-    let start = row::get_word(words, n, row::KEY) as usize;
-    let end = start + row::get_word(words, n, row::KEY_LEN) as usize;
-    if escaped {
-        return compare_escaped(&text[start..end], bytes);
-    }
-    tags::compare_bytes(&text[start..end], bytes)
-}
-
-// Where the key of record n stands to the Int that is looked for.
-fn compare_int(words: &[u32], text: &[u8], n: u32, int: u32) -> Ordering
-    requires { n < record_count words.now }
-    ensures { ordering_of result ≡ compare_keys (key_at words.now text.now n) (int_key int) }
-{
-    if row::get_word(words, n, row::KEY_KIND) == row::INT_KEY {
-        row::get_word(words, n, row::KEY).cmp(&int)
-    } else {
-        Ordering::Greater
-    }
+    bytes.iter().copied().cmp(Decoding::of(raw))
 }
 
 // Where the key of record n stands to the one that is looked for: a String's bytes, which are to be decoded on the way
@@ -90,9 +79,17 @@ pub(crate) fn compare_key(
     ensures { ordering_of result ≡ compare_keys (key_at words.now text.now n)
         (sought_key key escaped bytes.now) }
 {
-    match key {
-        KeyKind::Int(int) => compare_int(words, text, n, int),
-        KeyKind::None | KeyKind::String => compare_string(words, text, n, bytes, escaped),
+    let own = key_of(words, text, n);
+    if let KeyKind::Int(int) = key {
+        return match own {
+            Stored::Int(own) => own.cmp(&int),
+            Stored::String(_) => Ordering::Greater,
+        };
+    }
+    match own {
+        Stored::Int(_) => Ordering::Less,
+        Stored::String(own) if escaped => compare_escaped(own, bytes),
+        Stored::String(own) => tags::compare_bytes(own, bytes),
     }
 }
 
@@ -101,12 +98,12 @@ pub fn tag_at(words: &[u32], text: &[u8], n: u32) -> u64
     requires { (n < record_count words.now) × InText text.now (key_words_at words.now n) }
     ensures { result ≡ tag_of (key_at words.now text.now n) }
 {
-    let start = row::get_word(words, n, row::KEY);
-    if row::get_word(words, n, row::KEY_KIND) == row::INT_KEY {
-        return start as u64;
+    if let Some(int) = int_key(words, n) {
+        return u64::from(int);
     }
+    let start = row::get_word(words, n, row::KEY) as usize;
     let len = row::get_word(words, n, row::KEY_LEN) as usize;
-    tags::STRING_TAG + tags::head(text, start as usize, len) / 2
+    tags::STRING_TAG + tags::head(text, start, len) / 2
 }
 
 // The tag of a key: an Int, or else a String of that part of the text.
@@ -114,22 +111,10 @@ pub fn tag_of(key: KeyKind, text: &[u8], start: usize, len: usize) -> u64
     requires { start + len ≤ length text.now }
     ensures { result ≡ tag_of (sought_key key false (text_part text.now start len)) }
 {
-    match key {
-        KeyKind::Int(int) => u64::from(int),
-        KeyKind::None | KeyKind::String => tags::STRING_TAG + tags::head(text, start, len) / 2,
+    if let KeyKind::Int(int) = key {
+        return u64::from(int);
     }
-}
-
-// Where the key of record n, a String, stands to another.
-fn compare_long(words: &[u32], text: &[u8], n: u32, name: &[u8]) -> Ordering
-    requires inside { (n < record_count words.now) × InText text.now (key_words_at words.now n) }
-    requires is_string { word words.now n key_kind_word ≢ int_key_kind }
-    ensures { ordering_of result ≡ compare_keys (key_at words.now text.now n)
-        (str name.now) }
-{
-    let start = row::get_word(words, n, row::KEY) as usize;
-    let end = start + row::get_word(words, n, row::KEY_LEN) as usize;
-    tags::compare_bytes(&text[start..end], name)
+    tags::STRING_TAG + tags::head(text, start, len) / 2
 }
 
 // Where the key of record n stands to the one that is looked for, by its tag and its decoded bytes: most keys are told
@@ -150,30 +135,7 @@ pub fn compare_tagged(words: &[u32], text: &[u8], n: u32, tag: u64, name: &[u8])
     if len < 8 && name.len() < 8 {
         return len.cmp(&name.len());
     }
-    compare_long(words, text, n, name)
-}
-
-// Whether record n's key is that String.
-fn has_string(words: &[u32], text: &[u8], n: u32, name: &[u8]) -> bool
-    requires { (n < record_count words.now) × InText text.now (key_words_at words.now n) }
-    ensures { result ≡ true → compare_keys (key_at words.now text.now n)
-        (str name.now) ≡ NatOrdering.eq }
-{
-    if row::get_word(words, n, row::KEY_KIND) == row::INT_KEY {
-        return false;
-    }
-    let start = row::get_word(words, n, row::KEY) as usize;
-    let end = start + row::get_word(words, n, row::KEY_LEN) as usize;
-    tags::same_bytes(&text[start..end], name)
-}
-
-// Whether record n's key is that Int.
-fn has_int(words: &[u32], text: &[u8], n: u32, int: u32) -> bool
-    requires { n < record_count words.now }
-    ensures { result ≡ true → compare_keys (key_at words.now text.now n) (int_key int)
-        ≡ NatOrdering.eq }
-{
-    compare_int(words, text, n, int).is_eq()
+    tags::compare_bytes(name_of(words, text, n), name)
 }
 
 // Whether record n's key is the one that is looked for: an Int, or else a String of those bytes.
@@ -182,8 +144,15 @@ pub fn has_key(words: &[u32], text: &[u8], n: u32, key: KeyKind, name: &[u8]) ->
     ensures { result ≡ true → compare_keys (key_at words.now text.now n)
         (sought_key key false name.now) ≡ NatOrdering.eq }
 {
-    match key {
-        KeyKind::Int(int) => has_int(words, text, n, int),
-        KeyKind::None | KeyKind::String => has_string(words, text, n, name),
+    let own = key_of(words, text, n);
+    if let KeyKind::Int(int) = key {
+        return match own {
+            Stored::Int(own) => own == int,
+            Stored::String(_) => false,
+        };
+    }
+    match own {
+        Stored::Int(_) => false,
+        Stored::String(own) => tags::same_bytes(own, name),
     }
 }

@@ -1,32 +1,23 @@
-use Rattle.records.proofs.Comparing.{comparing_start, bytes_left, none_left, raw-left, byte_less, byte_greater, byte_equal}
+use Rattle.std.proofs.Common.{◌≡◌, ◌∙◌, ap, drop, nat_cmp, refl}
+use Rattle.std.specs.Cmp.Lexicographic.{slice_cmp}
+use Rattle.std.proofs.lemmas.Iterator.{YieldsList-from_slice}
+use Rattle.std.proofs.lemmas.Iterator.Consumers.{YieldsList-from_copied, YieldsList-from_first}
+use Rattle.std.proofs.lemmas.Iterator.Search.{cmp_from_yields_List}
+use Rattle.decode.specs.Decoding.{decoded}
+use Rattle.decode.specs.Stepping.{rest}
+use Rattle.tags.specs.Tags.{ordering_of}
+use Rattle.tags.proofs.Comparing.{ordering-bytes}
+use Rattle.records.specs.declared.escaped.Decoding.{Decoding}
 use Rattle.records.proofs.keys.compare_escaped.Goals as goal
 
-pub loop-j-init : goal.loop-j-init
-loop-j-init c = comparing_start _ _
-
-pub next_byte-s-requires : goal.next_byte-s-requires
-next_byte-s-requires c = c.loop-j-test.true
-
-pub returns-then-bytes-i : goal.returns-then-bytes-i
-returns-then-bytes-i c = raw-left c.loop-j.invariant c.next_byte-s.ensures c.if-bytes-i.true
-
-pub bounds-bytes-i : goal.bounds-bytes-i
-bounds-bytes-i c = c.if-bytes-i.false
-
-pub returns-then-x-y : goal.returns-then-x-y
-returns-then-x-y c =
-    byte_less c.loop-j.invariant c.next_byte-s.ensures c.if-bytes-i.false c.if-x-y.true
-
-pub returns-then-y-x : goal.returns-then-y-x
-returns-then-y-x c =
-    byte_greater c.loop-j.invariant c.next_byte-s.ensures c.if-bytes-i.false c.if-y-x.true
-
-pub loop-j-preserved : goal.loop-j-preserved
-loop-j-preserved c =
-    byte_equal c.loop-j.invariant c.next_byte-s.ensures c.if-bytes-i.false c.if-x-y.false c.if-y-x.false
-
-pub returns-then-i-bytes : goal.returns-then-i-bytes
-returns-then-i-bytes c = bytes_left c.loop-j.invariant c.loop-j-test.false c.if-i-bytes.true
-
-pub returns-else-i-bytes : goal.returns-else-i-bytes
-returns-else-i-bytes c = none_left c.loop-j.invariant c.loop-j-test.false c.if-i-bytes.false
+pub returns : goal.returns
+returns c =
+    let bytes = c.args.bytes.now in
+    let raw = c.args.raw.now in
+    let e : c.cmp.result ≡ slice_cmp nat_cmp bytes (decoded raw) =
+    cmp_from_yields_List (λ x y. y ≡ x) _ nat_cmp _ c.cmp.ensures.ran
+    (YieldsList-from_copied (YieldsList-from_slice bytes cc))
+    (λ it q. YieldsList-from_first (λ x. x) (λ (s : Decoding). rest s.keep (drop s.at s.raw.now)) (decoded raw)
+    (ap (λ (s : Decoding). rest s.keep (drop s.at s.raw.now)) q ∙ c.of.ensures))
+    (λ x y. refl) in
+    ap ordering_of e ∙ ordering-bytes bytes (decoded raw)

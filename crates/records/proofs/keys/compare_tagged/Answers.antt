@@ -28,10 +28,10 @@ returns-then-name-lt8 c =
     c.tag_at-t.ensures c.if-t-tag.false c.if-tag-lt-STRING_TAG.false c.get_word.ensures c.requires.1
     (are_bytes c.args.name.now c.type_inv.name) c.if-len-lt8.true c.if-name-lt8.true k s
 
-pub compare_long-requires : goal.compare_long-requires
-compare_long-requires c =
+pub name_of-requires : goal.name_of-requires
+name_of-requires c =
     record { inside = c.requires; is_string = tagged-kind c.args.words.now c.args.text.now c.args.n c.type_inv.words (omega arith) }
 
 pub returns : goal.returns
 returns c =
-    λ k s. rw (tagged-string c.if-tag-lt-STRING_TAG.false k s) at c.compare_long.ensures
+    λ k s. rw (← tagged-string c.if-tag-lt-STRING_TAG.false k s, c.name_of.ensures) c.compare_bytes.ensures

@@ -9,7 +9,7 @@ pub returns-in-Int : goal.returns-in-Int
 returns-in-Int c =
     rw (sought-int false (text_part c.args.text.now c.args.start c.args.len) c.in-Int.is) c.from.ensures
 
-pub returns-in-None : goal.returns-in-None
-returns-in-None c =
-    rw (sought-string false (text_part c.args.text.now c.args.start c.args.len) c.in-None.is)
+pub returns : goal.returns
+returns c =
+    rw (sought-string false (text_part c.args.text.now c.args.start c.args.len) c.args.key c.in_default.not-Int)
     (ap (λ h. string_tag + h / 2) c.head.ensures)
