@@ -1,28 +1,28 @@
 -- The field of a name: the comparison of bytes, and the search along the root's children.
-use Prim.Native.Nat.{ℕ, ◌+◌, ◌-◌, ◌<◌, ◌≤◌}
-use mathlib.Core.Path.{◌≡◌, refl, sym, ◌∙◌}
-use mathlib.Core.Logic.{◌≢◌}
+use Prim.Native.Nat.{ℕ, ◌<◌}
+use mathlib.Core.Path.{◌≡◌, refl}
 use mathlib.Core.Bool.{Bool, true, false, cond, ◌&&◌}
 use mathlib.Core.List.{List, [], ◌∷◌}
 use native.Mathlib.Omega.{arith}
-use native.Mathlib.Nat.{add-sub_cancel_left}
 use lib.Dec.{eqb}
 use lib.Pointwise.{pointwise}
-use lib.ListN.{length, take, drop}
-use borrow.Author.Tests.{eq-eqb}
+use lib.ListN.{length}
 use Rattle.laws.proofs.Cases.{split}
-use Rattle.row.specs.Row.{kind_word, key_kind_word, key_word, key_len_word, next_word, uninitialized_kind, map_kind}
-use Rattle.row.specs.Row.{sequence_kind, string_kind, string_key_kind}
+use Rattle.row.specs.Row.{kind_word, uninitialized_kind, map_kind}
+use Rattle.row.specs.Row.{sequence_kind, string_kind}
 use Rattle.row.specs.Words.{record_count, word}
-use Rattle.records.specs.Records.{key_words_at}
-use Rattle.records.specs.Keys.{InText}
 use Rattle.records.specs.Siblings.{children, Within, Linked}
 use Rattle.refusals.specs.declared.Refusal.TheVariants.{WrongRoot, NoSuchField}
-use Rattle.std.specs.Prelude.{Result, Ok, Err}
+use Rattle.std.specs.Prelude.{Some, Result, Ok, Err}
+use Rattle.std.specs.Option.{ok_or}
+use Rattle.std.specs.List.{find}
 use Rattle.refusals.specs.declared.Refusal.{Refusal}
 use Rattle.fields.specs.Fields.{same_bytes}
 use Rattle.fields.specs.OnRecords.{is_named_at, named_at, field_at}
-use Rattle.fields.proofs.Siblings.{Along, along-here, along-next, along-end}
+
+pub and_cond : (t : Bool) {r s : Bool} → r ≡ s → (t && r) ≡ cond t s false
+and_cond true e = e
+and_cond false e = refl
 
 -- `==` of slices of bytes is `same_bytes`.
 pub pointwise_same : (a b : List ℕ) → pointwise eqb a b ≡ same_bytes a b
@@ -30,39 +30,18 @@ unfolding same_bytes
 pointwise_same [] [] = refl
 pointwise_same [] (y ∷ b) = refl
 pointwise_same (x ∷ a) [] = refl
-pointwise_same (x ∷ a) (y ∷ b) = rw (pointwise_same a b) (by_cond (eqb x y) (same_bytes a b))
+pointwise_same (x ∷ a) (y ∷ b) = and_cond (eqb x y) (pointwise_same a b)
+
+-- The field is the first child of that name.
+pub named-found : (ws text name ms : List ℕ) → ok_or (find (is_named_at ws text name) ms) NoSuchField ≡ named_at ws text name ms
+unfolding named_at
+named-found ws text name [] = refl
+named-found ws text name (m ∷ ms) = go (is_named_at ws text name m) (named-found ws text name ms)
   where
-    by_cond : (t r : Bool) → (t && r) ≡ cond t r false
-    by_cond true r = refl
-    by_cond false r = refl
-
--- The String key of a record, which is compared with the name.
-module _ (ws text name : List ℕ) (n : ℕ) {start len : ℕ} (h : word ws n key_kind_word ≡ string_key_kind)
-    (p : start ≡ word ws n key_word) (q : len ≡ word ws n key_len_word) where
-  pub key-inside : InText text (key_words_at ws n) → start + len ≤ length text
-  unfolding key_words_at
-  key-inside i = omega (arith, i (λ z. omega (arith, h)))
-
-  pub is_name : {b : Bool} → b ≡ pointwise eqb (take (start + len - start) (drop start text)) name → b ≡ is_named_at ws text name n
-  unfolding is_named_at
-  is_name f =
-      rw (eq-eqb (word ws n key_kind_word) string_key_kind h)
-      (f ∙ pointwise_same (take (start + len - start) (drop start text)) name ∙ simp (add-sub_cancel_left, p, q))
-
--- The loop of `find_named`.
-module _ {ws : List ℕ} (text name : List ℕ) {whole : Result ℕ Refusal} {cur : ℕ} (v : Along ws (named_at ws text name) whole cur) where
-  module _ (n : cur ≢ 0) {b : Bool} (e : b ≡ is_named_at ws text name cur) where
-    pub named_here : b ≡ true → Ok cur ≡ whole
-    unfolding named_at
-    named_here h = rw (sym e ∙ h) at (along-here v n)
-
-    pub named_later : b ≡ false → Along ws (named_at ws text name) whole (word ws cur next_word)
-    unfolding named_at
-    named_later h = along-next v n (rw (sym e ∙ h) at (along-here v n))
-
-  pub named_nowhere : cur ≡ 0 → Err NoSuchField ≡ whole
-  unfolding named_at
-  named_nowhere h = along-end v h
+    go : (t : Bool) → ok_or (find (is_named_at ws text name) ms) NoSuchField ≡ named_at ws text name ms
+        → ok_or (cond t (Some m) (find (is_named_at ws text name) ms)) NoSuchField ≡ cond t (Ok m) (named_at ws text name ms)
+    go true e = refl
+    go false e = e
 
 -- A field is a record.
 named-inside : (ws text name : List ℕ) (lo hi n : ℕ) (ms : List ℕ) → Within lo hi ms → Ok n ≡ named_at ws text name ms → n < hi

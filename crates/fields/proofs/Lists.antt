@@ -1,62 +1,32 @@
 -- The list of a record: the loops along its elements.
 use Prim.Native.Nat.{ℕ, suc, ◌+◌, ◌*◌, ◌-◌, ◌<◌, ◌≤◌}
 use mathlib.Core.Path.{◌≡◌, refl, ap, ap₂, sym, ◌∙◌, subst}
-use mathlib.Core.Logic.{◌≢◌}
-use mathlib.Core.Bool.{Bool, true, false}
 use mathlib.Core.List.{List, [], ◌∷◌, ◌++◌, append_assoc, append-nil}
 use native.Mathlib.Omega.{arith}
 use native.Mathlib.Numerals.{add-one}
 use lib.ListN.{length, set, replicate, length-append, length-replicate}
 use lib.Seq.{set_at}
-use borrow.Author.Tests.{lt-ltb, le-ltb, eq-eqb, ne_eqb}
-use Rattle.row.specs.Row.{key_kind_word, int_key_kind, child_word, next_word}
+use borrow.Author.Tests.{lt-ltb, le-ltb}
+use lib.Dec.{eqb}
+use Rattle.fields.proofs.Fields.{and_cond}
+use Rattle.row.specs.Row.{key_kind_word, int_key_kind}
 use Rattle.row.specs.Words.{record_count, word}
-use Rattle.records.specs.Siblings.{chain, children, ChainEnds, Linked}
-use Rattle.records.proofs.Chains.{chain-end, step, ends_next, children-end}
+use Rattle.records.specs.Siblings.{children, Within, Linked}
+use Rattle.records.proofs.Chains.{children-end}
 use Rattle.fields.specs.declared.DuplicateKeyBehavior.{DuplicateKeyBehavior}
 use Rattle.refusals.specs.declared.Refusal.{Refusal}
 use Rattle.refusals.specs.declared.Refusal.TheVariants.{ShortSlice}
-use Rattle.std.specs.Prelude.{Option, Some, None, is_some, Result, Ok, Err}
-use Rattle.laws.proofs.Cases.{true-false}
-use Rattle.row.specs.Kinds.{IntKeyOf}
+use Rattle.std.specs.Prelude.{Result, Ok, Err}
+use Rattle.std.specs.List.{list_all}
 use Rattle.fields.specs.declared.text.Text.{Text}
 use Rattle.fields.specs.Lists.{Listed, no_elements, prepend}
 use Rattle.fields.specs.OnRecords.{single_text_at, int_keys_at, element_at, in_turn_at, elements_at, one_at, list_at, field_list_at, Writes, wrote, stopped}
-use Rattle.fields.proofs.Siblings.{Along, along-here, along-next, along-end}
 
--- The loop of `has_int_keys`.
-module _ {ws : List ℕ} {whole : Bool} {cur : ℕ} (v : Along ws (int_keys_at ws) whole cur) (n : cur ≢ 0) where
-  pub int-here : (r : Option ℕ) → IntKeyOf ws cur r → is_some r ≡ true → Along ws (int_keys_at ws) whole (word ws cur next_word)
-  unfolding int_keys_at
-  int-here (Some i) h e = along-next v n (rw (eq-eqb (word ws cur key_kind_word) int_key_kind h.0) at (along-here v n))
-  int-here None h e = true-false (sym e)
-
-  pub no-int-here : (r : Option ℕ) → IntKeyOf ws cur r → is_some r ≡ false → false ≡ whole
-  unfolding int_keys_at
-  no-int-here None h e = rw (ne_eqb (word ws cur key_kind_word) int_key_kind h) at (along-here v n)
-  no-int-here (Some i) h e = true-false e
-
-pub all-int : {ws : List ℕ} {whole : Bool} {cur : ℕ} → Along ws (int_keys_at ws) whole cur → cur ≡ 0 → true ≡ whole
+-- What `has_int_keys` tests of every child.
+pub int_keys-all : (ws ms : List ℕ) → list_all (λ m. eqb (word ws m key_kind_word) int_key_kind) ms ≡ int_keys_at ws ms
 unfolding int_keys_at
-all-int v h = along-end v h
-
--- The loop of `count_children`.
-pub record Counting (ws : List ℕ) (whole count cur : ℕ) : Type 0 where
-  pub ends : ChainEnds ws (record_count ws) cur
-  pub so_far : count + length (chain ws (record_count ws) cur) ≡ whole
-
-pub counting_start : (ws : List ℕ) (n : ℕ) → Linked ws (record_count ws) → n < record_count ws → Counting ws (length (children ws n)) 0 (word ws n child_word)
-counting_start ws n k l = record { ends = children-end k n l; so_far = omega arith }
-
-module _ {ws : List ℕ} {whole count cur : ℕ} (v : Counting ws whole count cur) where
-  pub counted : cur ≢ 0 → count + suc (length (chain ws (record_count ws) (word ws cur next_word))) ≡ whole
-  counted n = rw (step ws v.ends n) at v.so_far
-
-  pub counting_more : cur ≢ 0 → Counting ws whole (count + 1) (word ws cur next_word)
-  counting_more n = record { ends = ends_next ws v.ends n; so_far = omega (arith, counted n) }
-
-  pub counting_done : cur ≡ 0 → count ≡ whole
-  counting_done h = omega (arith, rw (h, chain-end ws (record_count ws)) at v.so_far)
+int_keys-all ws [] = refl
+int_keys-all ws (m ∷ ms) = and_cond (eqb (word ws m key_kind_word) int_key_kind) (int_keys-all ws ms)
 
 -- The words of the elements so far before those of the later ones.
 abbrev pub prefixed : ℕ → List ℕ → Result Listed Refusal → Result Listed Refusal
@@ -81,51 +51,38 @@ overwrite front zs k o n h =
     ∙ set_at (front ++ (o ∷ [])) 0 zs n (k + 1) (length-append front (o ∷ []) ∙ omega arith)
     ∙ simp append_assoc
 
--- The loop of `read_in_turn`.
-pub record Turning (d : DuplicateKeyBehavior) (ws text : List ℕ) (whole : Result Listed Refusal) (size i cur : ℕ) (l : List ℕ) : Type 0 where
-  pub ends : ChainEnds ws (record_count ws) cur
+-- The loop of `read_in_turn`, which has these children left.
+pub record Turning (d : DuplicateKeyBehavior) (ws text : List ℕ) (whole : Result Listed Refusal) (size i : ℕ) (rest l : List ℕ) : Type 0 where
   pub front : List ℕ
   pub front_long : length front ≡ 2 * i
   pub written : l ≡ front ++ replicate (size - 2 * i) 0
-  pub room : 2 * (i + length (chain ws (record_count ws) cur)) ≤ size
-  pub few : i + length (chain ws (record_count ws) cur) < record_count ws
-  pub so_far : prefixed i front (in_turn_at d ws text i (chain ws (record_count ws) cur)) ≡ whole
+  pub within : Within 0 (record_count ws) rest
+  pub room : 2 * (i + length rest) ≤ size
+  pub few : i + length rest < record_count ws
+  pub so_far : prefixed i front (in_turn_at d ws text i rest) ≡ whole
 
-pub turning_start : (d : DuplicateKeyBehavior) (ws text : List ℕ) (n : ℕ) (l : List ℕ) → Linked ws (record_count ws) → n < record_count ws
-    → l ≡ replicate (length l) 0
-    → 2 * length (children ws n) ≤ length l → Turning d ws text (in_turn_at d ws text 0 (children ws n)) (length l) 0 (word ws n child_word) l
-turning_start d ws text n l k h z r =
-    record {
-      ends = children-end k n h;
-      front = [];
-      front_long = refl;
-      written = let e : length l - 2 * 0 ≡ length l = omega arith in rw e z;
-      room = omega arith;
-      few = omega (arith, k.ends n h);
-      so_far = prefixed_none (in_turn_at d ws text 0 (children ws n));
-    }
-
-module _ {d : DuplicateKeyBehavior} {ws text : List ℕ} {whole : Result Listed Refusal} {size i cur : ℕ} {l : List ℕ} (v : Turning d ws text whole size i cur l) where
+module _ {d : DuplicateKeyBehavior} {ws text : List ℕ} {whole : Result Listed Refusal} {size i : ℕ} {rest l : List ℕ} (v : Turning d ws text whole size i rest l) where
   pub turning_long : length l ≡ size
   turning_long =
       ap length v.written ∙ length-append v.front (replicate (size - 2 * i) 0)
       ∙ omega (arith, v.front_long, v.room, length-replicate {A = ℕ} (size - 2 * i) 0)
 
-  module _ (n : cur ≢ 0) where
-    rest : List ℕ
-    rest = chain ws (record_count ws) (word ws cur next_word)
+  module _ {m : ℕ} {ms : List ℕ} (e : rest ≡ m ∷ ms) where
+    here : prefixed i v.front (prepend (element_at d ws text i m) (in_turn_at d ws text (suc i) ms)) ≡ whole
+    unfolding in_turn_at
+    here = rw e at v.so_far
 
-    here : prefixed i v.front (prepend (element_at d ws text i cur) (in_turn_at d ws text (suc i) rest)) ≡ whole
-    unfolding in_turn_at rest
-    here = rw (step ws v.ends n) at v.so_far
+    within-here : Within 0 (record_count ws) (m ∷ ms)
+    within-here = rw e at v.within
 
-    room-here : 2 * (i + suc (length rest)) ≤ size
-    unfolding rest
-    room-here = rw (step ws v.ends n) at v.room
+    room-here : 2 * (i + suc (length ms)) ≤ size
+    room-here = rw e at v.room
 
-    few-here : i + suc (length rest) < record_count ws
-    unfolding rest
-    few-here = rw (step ws v.ends n) at v.few
+    few-here : i + suc (length ms) < record_count ws
+    few-here = rw e at v.few
+
+    pub child_inside : m < record_count ws
+    child_inside = within-here.1
 
     pub next_fits : i + 1 < record_count ws
     next_fits = omega (arith, few-here)
@@ -133,33 +90,32 @@ module _ {d : DuplicateKeyBehavior} {ws text : List ℕ} {whole : Result Listed 
     pub element-fits : 2 * i + 1 < length l
     element-fits = omega (arith, turning_long, room-here)
 
-    pub turning_more : {t : Text} → Ok t ≡ element_at d ws text i cur
-        → Turning d ws text whole size (i + 1) (word ws cur next_word) (set (set l (2 * i) t.offset) (2 * i + 1) t.len)
-    unfolding rest
-    turning_more {t} e =
+    pub turning_more : {t : Text} → Ok t ≡ element_at d ws text i m
+        → Turning d ws text whole size (i + 1) ms (set (set l (2 * i) t.offset) (2 * i + 1) t.len)
+    turning_more {t} f =
         let k : size - 2 * i ≡ suc (suc (size - 2 * (i + 1))) = omega (arith, room-here) in
         record {
-          ends = ends_next ws v.ends n;
           front = v.front ++ (t.offset ∷ t.len ∷ []);
           front_long = length-append v.front (t.offset ∷ t.len ∷ []) ∙ omega (arith, v.front_long);
           written =
               ap (λ (y : List ℕ). set (set y (2 * i) t.offset) (2 * i + 1) t.len) (v.written ∙ ap (λ (y : ℕ). v.front ++ replicate y 0) k)
               ∙ overwrite v.front (replicate (size - 2 * (i + 1)) 0) (2 * i) t.offset t.len v.front_long;
+          within = within-here.2;
           room = omega (arith, room-here);
           few = omega (arith, few-here);
           so_far =
-              ap (λ (y : ℕ). prefixed (i + 1) (v.front ++ (t.offset ∷ t.len ∷ [])) (in_turn_at d ws text y rest)) (add-one i)
-              ∙ sym (prefixed_more i v.front t (in_turn_at d ws text (suc i) rest)) ∙ rw (sym e) at here;
+              ap (λ (y : ℕ). prefixed (i + 1) (v.front ++ (t.offset ∷ t.len ∷ [])) (in_turn_at d ws text y ms)) (add-one i)
+              ∙ sym (prefixed_more i v.front t (in_turn_at d ws text (suc i) ms)) ∙ rw (sym f) at here;
         }
 
-    pub turning_stopped : {x : Refusal} → Err x ≡ element_at d ws text i cur → Writes size l whole (Err x)
-    turning_stopped {x} e = subst (λ (y : Result Listed Refusal). Writes size l y (Err x)) (rw (sym e) at here) (stopped turning_long)
+    pub turning_stopped : {x : Refusal} → Err x ≡ element_at d ws text i m → Writes size l whole (Err x)
+    turning_stopped {x} f = subst (λ (y : Result Listed Refusal). Writes size l y (Err x)) (rw (sym f) at here) (stopped turning_long)
 
-  pub turning_done : cur ≡ 0 → Writes size l whole (Ok i)
+  pub turning_done : rest ≡ [] → Writes size l whole (Ok i)
   unfolding in_turn_at
   turning_done h =
       let e : i + 0 ≡ i = omega arith in
-      let q : Ok (record { count = i; words = v.front }) ≡ whole = rw (h, chain-end ws (record_count ws), e, append-nil) at v.so_far in
+      let q : Ok (record { count = i; words = v.front }) ≡ whole = rw (h, e, append-nil) at v.so_far in
       subst (λ (y : Result Listed Refusal). Writes size l y (Ok i)) q (wrote (v.written ∙ ap (λ (y : ℕ). v.front ++ replicate (size - y) 0) (sym v.front_long)))
 
 -- A String as the one element.

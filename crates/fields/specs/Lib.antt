@@ -2,3 +2,5 @@ pub mod Fields
 pub mod Texts
 pub mod Lists
 pub mod OnRecords
+pub mod Children
+pub mod Props

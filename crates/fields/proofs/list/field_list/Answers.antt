@@ -8,7 +8,6 @@ use Rattle.fields.proofs.list.field_list.Goals as goal
 pub read_list-requires : goal.read_list-requires
 read_list-requires c =
     record {
-      readable = c.requires.readable;
       inside = field_inside c.args.words.now c.args.text.now c.args.name.now _ c.requires.readable.formed.links
           c.requires.inside c.in_ok-n.ensures;
       clear = zero-list c.args.list.now c.clear_words.ensures;

@@ -2,7 +2,7 @@
 use Rattle.fields.proofs.Fields.{field_inside}
 use Rattle.fields.proofs.text.field_text.Goals as goal
 
-pub read_text-requires-clause-inside : goal.read_text-requires-clause-inside
-read_text-requires-clause-inside c =
+pub read_text-requires : goal.read_text-requires
+read_text-requires c =
     field_inside c.args.words.now c.args.text.now c.args.name.now _ c.requires.readable.formed.links
     c.requires.inside c.in_ok-n.ensures

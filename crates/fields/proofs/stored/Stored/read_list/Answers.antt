@@ -2,7 +2,7 @@
 use Rattle.std.proofs.Common.{rules}
 use Rattle.fields.specs.OnRecords.{list_at}
 use Rattle.fields.proofs.Lists.{none_written, turned_away}
-use Rattle.fields.proofs.list.read_list.Goals as goal
+use Rattle.fields.proofs.stored.Stored.read_list.Goals as goal
 
 pub returns-in-Ok-Map-2 : goal.returns-in-Ok-Map-2
 unfolding list_at
