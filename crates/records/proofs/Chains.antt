@@ -2,9 +2,9 @@
 use mathlib.Core.Path.{◌≡◌, refl, ap, sym, ◌∙◌}
 use mathlib.Core.Logic.{◌≢◌}
 use mathlib.Core.List.{List, [], ◌∷◌}
-use Prim.Native.Nat.{ℕ, zero, suc, ◌<◌, Ordering}
+use Prim.Native.Nat.{ℕ, zero, suc, ◌<◌, ◌≤◌, Ordering}
 use native.Mathlib.Omega.{arith}
-use lib.ListN.{length}
+use lib.ListN.{length, get_or}
 use Rattle.std.specs.declared.cmp.Ordering.{Ordering as KeyOrdering}
 use Rattle.std.specs.declared.cmp.Ordering.TheVariants.{Less, Equal, Greater}
 use Rattle.records.specs.declared.siblings.Gap.{Gap}
@@ -13,7 +13,7 @@ use Rattle.row.specs.Words.{record_count, word}
 use Rattle.records.specs.Records.{key_words_at}
 use Rattle.records.specs.Keys.{InText}
 use Rattle.tags.specs.Tags.{ordering_of}
-use Rattle.records.specs.Siblings.{chain, children, last_of, seek, Within, ChainEnds, Linked, ForSome, Walking, found, between}
+use Rattle.records.specs.Siblings.{chain, children, last_of, seek, Within, Ends, ChainEnds, Linked, ForSome, Walking, found, between}
 
 pub chain-end : (ws : List ℕ) (f : ℕ) → chain ws f 0 ≡ []
 unfolding chain
@@ -32,6 +32,40 @@ unfolding chain
 chain-step ws zero cur n h = absurd (omega arith)
 chain-step ws (suc f) zero n h = absurd (n refl)
 chain-step ws (suc f) (suc m) n h = ap (λ (l : List ℕ). suc m ∷ l) (sym (chain_more ws f (word ws (suc m) next_word) (omega arith)))
+
+-- The siblings that an iterator has left: the next of them, and the rest.
+module _ (ws : List ℕ) {cur : ℕ} (e : Ends ws cur) (n : cur ≢ 0) where
+  pub next-sibling : chain ws (record_count ws) cur ≡ cur ∷ chain ws (record_count ws) (word ws cur next_word)
+  next-sibling = chain-step ws (record_count ws) cur n e.few
+
+  longer : length (chain ws (record_count ws) cur) ≡ suc (length (chain ws (record_count ws) (word ws cur next_word)))
+  longer = ap length next-sibling
+
+  pub sibling-inside : cur < record_count ws
+  sibling-inside =
+      let first : get_or (chain ws (record_count ws) cur) 0 0 ≡ cur = rw next-sibling refl in
+      omega (arith, first, longer, e.inside 0 (omega (arith, longer)))
+
+  pub siblings-end : Ends ws (word ws cur next_word)
+  siblings-end =
+      record {
+        inside = λ i l.
+            let later : get_or (chain ws (record_count ws) cur) (suc i) 0 ≡ get_or (chain ws (record_count ws) (word ws cur next_word)) i 0 = rw next-sibling refl in
+            omega (arith, later, e.inside (suc i) (omega (arith, longer)));
+        few = omega (arith, longer, e.few);
+      }
+
+within_at : (lo hi : ℕ) (ms : List ℕ) → Within lo hi ms → (i : ℕ) → i < length ms → get_or ms i 0 < hi
+within_at lo hi [] h i l = absurd (omega arith)
+within_at lo hi (m ∷ ms) h zero l = h.1
+within_at lo hi (m ∷ ms) h (suc i) l = within_at lo hi ms h.2 i (omega arith)
+
+pub ends-among : (ws : List ℕ) {used n : ℕ} → used ≤ record_count ws → ChainEnds ws used n → Ends ws n
+ends-among ws {used} {n} r e =
+    record {
+      inside = λ i l. omega (arith, within_at 0 used (chain ws (record_count ws) n) e.within i l);
+      few = e.few;
+    }
 
 -- A record of a list that ends, and the rest of the list.
 module _ (ws : List ℕ) {used cur : ℕ} (e : ChainEnds ws used cur) (n : cur ≢ 0) where

@@ -3,3 +3,4 @@ pub mod Keys
 pub mod Siblings
 pub mod Nodes
 pub mod Holds
+pub mod Walks

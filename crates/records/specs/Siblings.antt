@@ -1,6 +1,6 @@
 -- Lists of siblings, and the position of a key in one.
 use Prim.Native.Nat.{ℕ, zero, suc, ◌<◌, ◌≤◌, Ordering}
-use Rattle.std.specs.Prelude.{◌≡◌, List, [], ◌∷◌, length, Result, Ok, Err}
+use Rattle.std.specs.Prelude.{◌≡◌, List, [], ◌∷◌, length, get_or, Result, Ok, Err}
 use Rattle.key.specs.Keys.{Key}
 use Rattle.key.specs.KeyOrder.{compare_keys, choose}
 use Rattle.records.specs.declared.siblings.Gap.{Gap}
@@ -56,6 +56,11 @@ Within lo hi (m ∷ ms) = (lo < m) × (m < hi) × Within lo hi ms
 -- The siblings from record n on are among the records used, and they end.
 pub record ChainEnds (ws : List ℕ) (used n : ℕ) : Type 0 where
   pub within : Within 0 used (chain ws (record_count ws) n)
+  pub few : length (chain ws (record_count ws) n) < record_count ws
+
+-- The siblings from record n on are among the words' records, and they end.
+pub record Ends (ws : List ℕ) (n : ℕ) : Type 0 where
+  pub inside : (i : ℕ) → i < length (chain ws (record_count ws) n) → get_or (chain ws (record_count ws) n) i 0 < record_count ws
   pub few : length (chain ws (record_count ws) n) < record_count ws
 
 -- Of the records used: the numbers of a record's children are above its own, and each list of children ends. Nothing is

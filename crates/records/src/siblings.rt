@@ -1,11 +1,14 @@
 // Lists of siblings: a child found by its key, the last child, and a new child put in.
 ghost use Rattle.std.specs.Prelude.{◌≡◌, ◌<◌};
+ghost use Rattle.std.specs.Iterator.{YieldsFirst, item_count};
 ghost use Rattle.row.specs.Words.{record_count};
 ghost use Rattle.records.specs.Keys.{sought_key};
 ghost use Rattle.records.specs.Siblings.{chain, children, standing, seek, position, last_of};
 ghost use Rattle.records.specs.Siblings.{ChainEnds, Linked, WellFormed, ForSome};
+ghost use Rattle.records.specs.Walks.{left};
 ghost use Rattle.records.specs.Records.{linked, inserted};
 
+pub use crate::line::Siblings;
 use crate::store::Record;
 use crate::{keys, store};
 use key::KeyKind;
@@ -20,6 +23,41 @@ pub struct Gap {
 
 // Where a key stands among the children of a map: at a child, or in a gap.
 pub type Position = Result<u32, Gap>;
+
+impl<'a> Siblings<'a> {
+    // Those from record n on, none where n is 0.
+    pub fn starting(words: &'a [u32], n: u32) -> Siblings<'a>
+        requires { ForSome (λ used. Linked words.now used × ChainEnds words.now used n) }
+        ensures { left result ≡ chain words.now (record_count words.now) n }
+    {
+        Siblings { words, cur: n }
+    }
+
+    // The children of a record.
+    pub fn children(words: &'a [u32], parent: u32) -> Siblings<'a>
+        requires { ForSome (λ used. Linked words.now used × (parent < used)) }
+        ensures { left result ≡ children words.now parent }
+    {
+        Siblings::starting(words, row::get_word(words, parent, row::CHILD))
+    }
+}
+
+impl<'a> Iterator for Siblings<'a> {
+    type Item = u32;
+
+    ghost next_gives = { YieldsFirst left };
+
+    ghost remaining = { item_count left };
+
+    fn next(&mut self) -> Option<u32> {
+        if self.cur == 0 {
+            return None;
+        }
+        let sibling = self.cur;
+        self.cur = row::get_word(self.words, sibling, row::NEXT);
+        Some(sibling)
+    }
+}
 
 // The position of a key among the siblings from `first` on, of which `before` is the one before the first.
 fn walk(
