@@ -2,18 +2,16 @@
 use mathlib.Core.Path.{◌≡◌, refl, ap}
 use mathlib.Core.Bool.{Bool, true, false, cond}
 use mathlib.Core.List.{List, [], ◌∷◌}
-use Prim.Native.Nat.{ℕ, ◌+◌, ◌≤◌}
+use Prim.Native.Nat.{ℕ, ◌≤◌}
 use native.Mathlib.Omega.{arith}
 use borrow.Author.Tests.{leb-true}
 use lib.Dec.{eqb}
-use lib.ListN.{length, drop}
+use lib.ListN.{length}
 use Rattle.std.specs.Prelude.{Some, None, is_some}
 use Rattle.laws.proofs.Cases.{split, true-false}
 use Rattle.decode.specs.Hex.{is_hex}
 use Rattle.decode.specs.Decoding.{decoded, fits_in, answer}
 use Rattle.decode.specs.Shown.{length_of}
-use Rattle.decode.specs.Stepping.{rest, Yields}
-use Rattle.decode.proofs.Steps.{rest-zero, rest-done}
 
 -- Decoding never lengthens.
 pub decoded-le : (xs : List ℕ) → length (decoded xs) ≤ length xs
@@ -28,21 +26,6 @@ decoded-le (x ∷ y ∷ z ∷ r) =
     (λ q. split (is_hex z) (λ s. simp (p, q, s) (omega (arith, decoded-le r))) (λ s. simp (p, q, s) (omega (arith, decoded-le r))))
     (λ q. simp (p, q) (omega (arith, decoded-le (z ∷ r)))))
     (λ p. simp p (omega (arith, decoded-le (y ∷ z ∷ r))))
-
--- The loop that counts: n bytes are counted.
-pub record Counting (raw : List ℕ) (i k n : ℕ) : Type 0 where
-  pub within : i ≤ length raw
-  pub few : n ≤ i
-  pub so_far : n + length (rest k (drop i raw)) ≡ length (decoded raw)
-
-pub counting_start : (raw : List ℕ) → Counting raw 0 0 0
-counting_start raw = record { within = omega arith; few = omega arith; so_far = omega (arith, ap length (rest-zero raw)) }
-
-pub counting_more : {raw : List ℕ} {i k n b j l : ℕ} → Counting raw i k n → Yields raw i k b j l → Counting raw j l (n + 1)
-counting_more v s = record { within = s.within; few = omega arith; so_far = omega (arith, ap length s.yields) }
-
-pub counting_done : {raw : List ℕ} {i k n : ℕ} → Counting raw i k n → length raw ≤ i → n ≡ length (decoded raw)
-counting_done {raw} {i} {k} v h = omega (arith, ap length (rest-done k i raw h))
 
 -- A number says that the bytes fit.
 pub some-fits : (raw out : List ℕ) (n : ℕ) → Some n ≡ answer raw out → n ≤ length out

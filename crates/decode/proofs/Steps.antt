@@ -1,17 +1,23 @@
--- What one step of the decoding yields, by the tests that lead there.
-use mathlib.Core.Path.{◌≡◌, refl, sym, ◌∙◌}
-use mathlib.Core.List.{List, [], ◌∷◌}
+-- What is left of the decoding after a step, by the tests that lead there.
+use mathlib.Core.Path.{◌≡◌, refl, sym, ap}
+use mathlib.Core.List.{List, [], ◌∷◌, ◌++◌}
 use Prim.Native.Nat.{ℕ, zero, suc, ◌+◌, ◌-◌, ◌≤◌, ◌<◌}
 use native.Mathlib.Nat.{not-suc-le-zero}
 use native.Mathlib.Numerals.{sub-one}
 use native.Mathlib.Omega.{arith}
 use borrow.Author.Tests.{lt-ltb, le-ltb, ne_eqb}
-use lib.ListN.{length, drop, get_or, length-drop, drop_of_length-le}
+use lib.ListN.{length, take, drop, get_or, drop_of_length-le}
 use lib.Seq.{take-nil, drop-nil}
-use Rattle.laws.proofs.Lists.{drop_1, drop_3}
-use Rattle.decode.specs.Hex.{digit_of, byte_of}
+use Rattle.std.specs.Prelude.{◌*◌, Some, None, is_some}
+use native.Mathlib.Numerals.{add-one}
+use Rattle.laws.proofs.Lists.{mid_tail}
+use Rattle.laws.proofs.Cases.{below, true-false}
+use Rattle.decode.specs.declared.escapes.Escape.TheVariants.{Byte, Kept}
+use Rattle.decode.specs.Hex.{digit_of, hex_value, byte_of}
 use Rattle.decode.specs.Decoding.{decoded, plus_to_space}
-use Rattle.decode.specs.Stepping.{rest, Yields}
+use Rattle.decode.specs.Laying.{Escapes}
+use Rattle.decode.specs.Shown.{length_of}
+use Rattle.decode.specs.Stepping.{rest}
 
 pub rest-zero : (xs : List ℕ) → rest 0 xs ≡ decoded xs
 unfolding rest
@@ -32,7 +38,19 @@ rest_plain x [] h = refl
 rest_plain x (y ∷ []) h = simp (ne_eqb x 37 h)
 rest_plain x (y ∷ z ∷ r) h = simp (ne_eqb x 37 h)
 
-rest_end : (t : List ℕ) → length t < 2 → rest 0 (37 ∷ t) ≡ 37 ∷ rest 2 t
+-- What a decoder has left after a byte, and that nothing is left where no raw byte is.
+pub left_none : (k : ℕ) (raw : List ℕ) → length raw ≡ 0 → rest k raw ≡ []
+unfolding rest decoded
+left_none k [] h = simp (take-nil, drop-nil)
+left_none k (x ∷ t) h = absurd (omega arith)
+
+pub left_kept : {k x : ℕ} {raw t : List ℕ} → raw ≡ x ∷ t → 0 < k → rest k raw ≡ x ∷ rest (k - 1) t
+left_kept {k} {x} {raw} {t} e h = rw e (rest_keep k x t h)
+
+pub left_plain : {k x b : ℕ} {raw t : List ℕ} → raw ≡ x ∷ t → k ≤ 0 → (x ≡ 37 → ⊥) → b ≡ plus_to_space x → rest k raw ≡ b ∷ rest k t
+left_plain {k} {x} {b} {raw} {t} e h ne p = let z : k ≡ 0 = omega arith in rw (e, z, p) (rest_plain x t ne)
+
+rest_end : (t : List ℕ) → length t < 2 → rest 0 (37 ∷ t) ≡ 37 ∷ rest (length t) t
 unfolding rest decoded
 rest_end [] h = refl
 rest_end (y ∷ []) h = refl
@@ -51,44 +69,50 @@ rest-hex : (y z : ℕ) (r : List ℕ) → digit_of y < 16 → digit_of z < 16 �
 unfolding rest decoded
 rest-hex y z r h k = simp (lt-ltb (digit_of y) 16 h, lt-ltb (digit_of z) 16 k)
 
-tail_of : {x y : ℕ} {s t : List ℕ} → x ∷ s ≡ y ∷ t → s ≡ t
-tail_of e = cc
+-- What the value of a byte as a hex digit says.
+some-hex : (b : ℕ) {v : ℕ} → Some v ≡ hex_value b → (digit_of b < 16) × (v ≡ digit_of b)
+some-hex b {v} e =
+    below (digit_of b) 16
+    (λ h. (h, ap length_of (simp (lt-ltb (digit_of b) 16 h) at e)))
+    (λ h. true-false (ap is_some (simp (le-ltb (digit_of b) 16 h) at e)))
 
-module _ (raw : List ℕ) (i : ℕ) (h : i < length raw) where
-  -- A step that takes one raw byte.
-  one_on : {k b l : ℕ} → rest k (drop i raw) ≡ b ∷ rest l (drop (i + 1) raw) → Yields raw i k b (i + 1) l
-  one_on e = record { on = omega arith; within = omega arith; yields = e }
+none-hex : (b : ℕ) → None ≡ hex_value b → 16 ≤ digit_of b
+none-hex b e = below (digit_of b) 16 (λ h. true-false (sym (ap is_some (simp (lt-ltb (digit_of b) 16 h) at e)))) (λ h. h)
 
-  pub swallowed : (k : ℕ) → 0 < k → Yields raw i k (get_or raw i 0) (i + 1) (k - 1)
-  swallowed k p = one_on (rw (drop_1 raw i h) (rest_keep k (get_or raw i 0) (drop (i + 1) raw) p))
+-- What a '%' stands for, by the bytes after it.
+pub escapes_end : (t : List ℕ) → length t < 2 → Escapes t (Kept (length t))
+escapes_end t h = (omega arith, rest_end t h)
 
-  pub unescaped : (k : ℕ) → k ≤ 0 → (get_or raw i 0 ≡ 37 → ⊥) → (b : ℕ) → b ≡ plus_to_space (get_or raw i 0) → Yields raw i k b (i + 1) 0
-  unescaped k e ne b q =
-      let z : k ≡ 0 = omega arith in
-      one_on (rw (q, z, drop_1 raw i h) (rest_plain (get_or raw i 0) (drop (i + 1) raw) ne))
+pub escapes-first : (t : List ℕ) → 2 ≤ length t → None ≡ hex_value (get_or t 0 0) → Escapes t (Kept 1)
+escapes-first [] h e = absurd (omega arith)
+escapes-first (y ∷ t) h e = (omega arith, rest_one y t (none-hex y e))
 
-  module _ (p : get_or raw i 0 ≡ 37) where
-    pub at_the_end : length raw - i < 3 → Yields raw i 0 37 (i + 1) 2
-    at_the_end s = one_on (rw (drop_1 raw i h, p) (rest_end (drop (i + 1) raw) (simp length-drop (omega arith))))
+module _ {v : ℕ} where
+  pub escapes-second : (t : List ℕ) → 2 ≤ length t → Some v ≡ hex_value (get_or t 0 0) → None ≡ hex_value (get_or t 1 0)
+      → Escapes t (Kept 2)
+  escapes-second [] h e f = absurd (omega arith)
+  escapes-second (y ∷ []) h e f = absurd (omega arith)
+  escapes-second (y ∷ z ∷ r) h e f = (omega arith, rest_two y z r (some-hex y e).0 (none-hex z f))
 
-    module _ (s : 3 ≤ length raw - i) where
-      whole : rest 0 (drop i raw) ≡ rest 0 (37 ∷ get_or raw (i + 1) 0 ∷ get_or raw (i + 2) 0 ∷ drop (i + 3) raw)
-      whole = rw (drop_3 raw i (omega arith), p)
+  pub escapes_both : {w : ℕ} (t : List ℕ) → 2 ≤ length t → Some v ≡ hex_value (get_or t 0 0) → Some w ≡ hex_value (get_or t 1 0)
+      → Escapes t (Byte (16 * v + w))
+  escapes_both [] h e f = absurd (omega arith)
+  escapes_both (y ∷ []) h e f = absurd (omega arith)
+  escapes_both (y ∷ z ∷ r) h e f =
+      let p = some-hex y e in
+      let q = some-hex z f in
+      (omega arith, rw (p.1, q.1) (rest-hex y z r p.0 q.0))
 
-      after : drop (i + 1) raw ≡ get_or raw (i + 1) 0 ∷ get_or raw (i + 2) 0 ∷ drop (i + 3) raw
-      after = tail_of (sym (drop_1 raw i h) ∙ drop_3 raw i (omega arith))
+-- What a list decodes to, by its first byte and what stands after it.
+module _ {x : ℕ} {left t : List ℕ} (e : left ≡ x ∷ t) where
+  pub decoded_plain : {b : ℕ} → (x ≡ 37 → ⊥) → b ≡ plus_to_space x → decoded left ≡ b ∷ decoded t
+  unfolding rest
+  decoded_plain ne p = left_plain {k = 0} e (omega arith) ne p
 
-      pub first-not-hex : 16 ≤ digit_of (get_or raw (i + 1) 0) → Yields raw i 0 37 (i + 1) 1
-      first-not-hex q = one_on (whole ∙ rw after (rest_one (get_or raw (i + 1) 0) (get_or raw (i + 2) 0 ∷ drop (i + 3) raw) q))
+  pub decoded_byte : {b : ℕ} → x ≡ 37 → Escapes t (Byte b) → decoded left ≡ b ∷ decoded (take (length t - 2) (drop 2 t))
+  unfolding rest
+  decoded_byte p s = rw (e, p, mid_tail 2 t) s.1
 
-      module _ (q : digit_of (get_or raw (i + 1) 0) < 16) where
-        pub second-not-hex : 16 ≤ digit_of (get_or raw (i + 2) 0) → Yields raw i 0 37 (i + 1) 2
-        second-not-hex q2 = one_on (whole ∙ rw after (rest_two (get_or raw (i + 1) 0) (get_or raw (i + 2) 0) (drop (i + 3) raw) q q2))
-
-        pub escape : digit_of (get_or raw (i + 2) 0) < 16 → (b : ℕ) → b ≡ byte_of (get_or raw (i + 1) 0) (get_or raw (i + 2) 0) → Yields raw i 0 b (i + 3) 0
-        escape q2 b f =
-            record {
-              on = omega arith;
-              within = omega arith;
-              yields = whole ∙ rw f (rest-hex (get_or raw (i + 1) 0) (get_or raw (i + 2) 0) (drop (i + 3) raw) q q2);
-            }
+  pub decoded_kept : {k : ℕ} {kept : List ℕ} → x ≡ 37 → Escapes t (Kept k) → kept ≡ take (k + 1) left → decoded left ≡ kept ++ decoded (drop (k + 1) left)
+  unfolding rest
+  decoded_kept p s q = rw (q, e, p, add-one) s.1

@@ -1,5 +1,5 @@
 -- Hex digits, with capital and with small letters, and what they name (READING, 'Decoding').
-use Rattle.std.specs.Prelude.{ℕ, ◌+◌, ◌-◌, ◌*◌, Bool, cond, leb, ltb}
+use Rattle.std.specs.Prelude.{ℕ, ◌+◌, ◌-◌, ◌*◌, Bool, cond, leb, ltb, Option, Some, None}
 use Rattle.ascii.specs.Bytes.{zero, nine, capital_a, capital_f, small_a, small_f}
 
 -- The value of a hex digit, and 16 for any other byte.
@@ -15,6 +15,10 @@ digit_of b =
 
 abbrev pub is_hex : ℕ → Bool
 is_hex b = ltb (digit_of b) 16
+
+-- The value of a hex digit, and none of any other byte.
+abbrev pub hex_value : ℕ → Option ℕ
+hex_value b = cond (is_hex b) (Some (digit_of b)) None
 
 -- The byte that two hex digits name.
 abbrev pub byte_of : ℕ → ℕ → ℕ

@@ -1,5 +1,6 @@
 -- READING, 'Decoding': what a caller is shown of a segment.
-use Rattle.std.specs.Prelude.{ℕ, Bool, true, false, cond, List, [], ◌∷◌, eqb, take, Option, unwrap_or}
+use Rattle.std.specs.Prelude.{ℕ, Bool, true, false, cond, List, eqb, take, Option, unwrap_or}
+use Rattle.std.specs.List.{list_all}
 use Rattle.ascii.specs.Bytes.{percent, plus}
 
 -- Neither `+` nor `%`.
@@ -7,9 +8,8 @@ abbrev pub plain_byte : ℕ → Bool
 plain_byte b = cond (eqb b plus) false (cond (eqb b percent) false true)
 
 -- Whether every byte is such a one.
-unfoldable pub all_plain : List ℕ → Bool
-all_plain [] = true
-all_plain (x ∷ xs) = cond (plain_byte x) (all_plain xs) false
+abbrev pub all_plain : List ℕ → Bool
+all_plain raw = list_all plain_byte raw
 
 -- The number of decoded bytes in an answer, 0 after a `None`.
 abbrev pub length_of : Option ℕ → ℕ

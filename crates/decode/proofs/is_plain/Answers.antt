@@ -1,17 +1,14 @@
-use Rattle.decode.proofs.Plain.{looking_start, looking_done, looking_plus, looking_percent, looking_more}
+-- The bytes behind plain blocks are told one by one.
+use Rattle.std.proofs.Common.{◌∙◌, drop, rules, tests}
+use Rattle.std.proofs.lemmas.Iterator.{YieldsList-from_slice}
+use Rattle.std.proofs.lemmas.Iterator.Search.{all_from_yields_List}
+use Rattle.laws.proofs.Lists.{mid_tail}
+use Rattle.decode.specs.Shown.{plain_byte}
+use Rattle.decode.proofs.Plain.{plain_behind}
 use Rattle.decode.proofs.is_plain.Goals as goal
 
-pub loop-i-init : goal.loop-i-init
-loop-i-init c = looking_start c.plain_blocks-i.ensures
-
-pub returns-then-b-eq43 : goal.returns-then-b-eq43
-returns-then-b-eq43 c = looking_plus c.loop-i.invariant c.loop-i-test.true c.if-b-eq43.true
-
-pub returns-then-b-eq37 : goal.returns-then-b-eq37
-returns-then-b-eq37 c = looking_percent c.loop-i.invariant c.loop-i-test.true c.if-b-eq37.true
-
-pub loop-i-preserved : goal.loop-i-preserved
-loop-i-preserved c = looking_more c.loop-i.invariant c.loop-i-test.true c.if-b-eq43.false c.if-b-eq37.false
-
 pub returns : goal.returns
-returns c = looking_done c.loop-i.invariant c.loop-i-test.false
+returns c =
+    let rest = drop c.plain_blocks-at.result c.args.raw.now in
+    all_from_yields_List plain_byte _ _ _ c.all.ensures.ran (YieldsList-from_slice rest (c.iter.ensures.rest ∙ mid_tail c.plain_blocks-at.result c.args.raw.now)) (λ x b q k. search (rules, tests))
+    ∙ plain_behind c.plain_blocks-at.ensures

@@ -1,31 +1,24 @@
 -- The front is plain, so it is copied, and the rest is decoded after it.
-use borrow.Author.Rules.{rules}
-use native.Mathlib.Omega.{arith}
-use Rattle.decode.proofs.Laying.{front-room, tail_start, tail_room, joined}
+use Rattle.decode.proofs.Plain.{front-plain}
+use Rattle.decode.proofs.Laying.{front-room, tail_room, joined}
 use Rattle.decode.proofs.writing.write.Goals as goal
 
-pub copy-requires : goal.copy-requires
-copy-requires c =
-    front-room c.plain_blocks-at.ensures c.args.out.now c.requires
+pub put-requires : goal.put-requires
+put-requires c =
+    let e = front-plain c.plain_blocks.ensures c.split_at.ensures.front c.split_at.ensures.back in
+    front-room _ _ _ e c.args.out.now c.requires
 
-pub slice_bounds-lay-count-2 : goal.slice_bounds-lay-count-2
-slice_bounds-lay-count-2 c =
-    tail_start c.plain_blocks-at.ensures c.args.out.now c.requires _ c.copy.ensures
+pub lay-requires : goal.lay-requires
+lay-requires c =
+    let e = front-plain c.plain_blocks.ensures c.split_at.ensures.front c.split_at.ensures.back in
+    tail_room _ _ _ e c.args.out.now c.requires _ c.put.ensures
 
-pub slice_bounds-lay-start-2 : goal.slice_bounds-lay-start-2
-slice_bounds-lay-start-2 c =
-    let h = tail_start c.plain_blocks-at.ensures c.args.out.now c.requires _ c.copy.ensures in
-    search rules
+pub returns-clause-length : goal.returns-clause-length
+returns-clause-length c =
+    let e = front-plain c.plain_blocks.ensures c.split_at.ensures.front c.split_at.ensures.back in
+    (joined _ _ _ e c.args.out.now c.requires _ c.put.ensures _ _ c.lay.ensures.length c.lay.ensures.bytes).0
 
-pub lay-n-requires : goal.lay-n-requires
-lay-n-requires c =
-    tail_room c.plain_blocks-at.ensures c.args.out.now c.requires _ c.copy.ensures
-
-pub overflow_add-result : goal.overflow_add-result
-overflow_add-result c =
-    let j = joined c.plain_blocks-at.ensures c.args.out.now c.requires _ c.copy.ensures c.lay-n.ensures.length c.lay-n.ensures.bytes in
-    omega (arith, j.0, c.requires)
-
-pub returns : goal.returns
-returns c =
-    let all = joined c.plain_blocks-at.ensures c.args.out.now c.requires _ c.copy.ensures c.lay-n.ensures.length c.lay-n.ensures.bytes in record { length = all.0; bytes = all.1 }
+pub returns-clause-bytes : goal.returns-clause-bytes
+returns-clause-bytes c =
+    let e = front-plain c.plain_blocks.ensures c.split_at.ensures.front c.split_at.ensures.back in
+    (joined _ _ _ e c.args.out.now c.requires _ c.put.ensures _ _ c.lay.ensures.length c.lay.ensures.bytes).1
