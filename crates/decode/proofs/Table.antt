@@ -1,11 +1,11 @@
 -- The table of the values of hex digits, checked entry by entry.
-use Rattle.std.proofs.Common.{◌≡◌, ℕ, zero, suc, ◌/◌, ◌%◌, ◌<◌, Bool, true, ◌&&◌, eqb, get_or, [], refl}
+use Rattle.std.proofs.Common.{◌≡◌, ℕ, zero, suc, ◌<◌, Bool, true, ◌&&◌, eqb, get_or, refl}
 use Rattle.std.proofs.lemmas.Bool.Decides.{Decides-below_and, Decides-eqb}
-use Rattle.decode.specs.declared.escapes.TheConstants.{VALUES}
+use Rattle.decode.specs.declared.escapes.TheConstants.{HEX_VALUES}
 use Rattle.decode.specs.Hex.{digit_of}
 
 abbrev entry : ℕ → ℕ
-entry b = get_or (get_or VALUES (b / 16) []) (b % 16) 0
+entry b = get_or HEX_VALUES b 0
 
 abbrev entries_match : ℕ → Bool
 entries_match zero = true

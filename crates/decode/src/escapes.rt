@@ -3,27 +3,26 @@ ghost use Rattle.std.specs.Prelude.{◌≡◌};
 ghost use Rattle.decode.specs.Hex.{digit_of, hex_value};
 ghost use Rattle.decode.specs.Laying.{Escapes};
 
-// The values of sixteen bytes as hex digits, 16 for those that are none: of bytes without a digit, of those from '0' on,
-// and of those from '@' on, which stands before 'A', or from '`' on, which stands before 'a'.
-const NONE: [u8; 16] = [16; 16];
-
-const DIGITS: [u8; 16] = [0, 1, 2, 3, 4, 5, 6, 7, 8, 9, 16, 16, 16, 16, 16, 16];
-
-const LETTERS: [u8; 16] = [
-    16, 10, 11, 12, 13, 14, 15, 16, 16, 16, 16, 16, 16, 16, 16, 16,
-];
-
-// The values of all bytes.
-static VALUES: [[u8; 16]; 16] = [
-    NONE, NONE, NONE, DIGITS, LETTERS, NONE, LETTERS, NONE, NONE, NONE, NONE, NONE, NONE, NONE,
-    NONE, NONE,
+// The values of all bytes as hex digits, and 16 for those that are none.
+static HEX_VALUES: [u8; 256] = [
+    16, 16, 16, 16, 16, 16, 16, 16, 16, 16, 16, 16, 16, 16, 16, 16, 16, 16, 16, 16, 16, 16, 16, 16,
+    16, 16, 16, 16, 16, 16, 16, 16, 16, 16, 16, 16, 16, 16, 16, 16, 16, 16, 16, 16, 16, 16, 16, 16,
+    0, 1, 2, 3, 4, 5, 6, 7, 8, 9, 16, 16, 16, 16, 16, 16, 16, 10, 11, 12, 13, 14, 15, 16, 16, 16,
+    16, 16, 16, 16, 16, 16, 16, 16, 16, 16, 16, 16, 16, 16, 16, 16, 16, 16, 16, 16, 16, 16, 16, 10,
+    11, 12, 13, 14, 15, 16, 16, 16, 16, 16, 16, 16, 16, 16, 16, 16, 16, 16, 16, 16, 16, 16, 16, 16,
+    16, 16, 16, 16, 16, 16, 16, 16, 16, 16, 16, 16, 16, 16, 16, 16, 16, 16, 16, 16, 16, 16, 16, 16,
+    16, 16, 16, 16, 16, 16, 16, 16, 16, 16, 16, 16, 16, 16, 16, 16, 16, 16, 16, 16, 16, 16, 16, 16,
+    16, 16, 16, 16, 16, 16, 16, 16, 16, 16, 16, 16, 16, 16, 16, 16, 16, 16, 16, 16, 16, 16, 16, 16,
+    16, 16, 16, 16, 16, 16, 16, 16, 16, 16, 16, 16, 16, 16, 16, 16, 16, 16, 16, 16, 16, 16, 16, 16,
+    16, 16, 16, 16, 16, 16, 16, 16, 16, 16, 16, 16, 16, 16, 16, 16, 16, 16, 16, 16, 16, 16, 16, 16,
+    16, 16, 16, 16, 16, 16, 16, 16, 16, 16, 16, 16, 16, 16,
 ];
 
 // The value of a byte as a hex digit, 16 if it is none.
 fn value_of(b: u8) -> u8
     ensures { result ≡ digit_of b }
 {
-    VALUES[usize::from(b / 16)][usize::from(b % 16)]
+    HEX_VALUES[usize::from(b)]
 }
 
 // The value of a hex digit.

@@ -21,8 +21,8 @@ mod writing; // the decoded bytes written
 // swallows unchanged.
 #[derive(Clone, Copy)]
 pub struct Decoder<'a> {
-    raw: &'a [u8],
-    keep: usize,
+    pub raw: &'a [u8],
+    pub keep: usize,
 }
 
 impl<'a> Decoder<'a> {

@@ -19,7 +19,7 @@ use Rattle.key.specs.Zeros.{Off, On, Apart}
 
 -- Digits decode to themselves.
 digits-plain : (s : List ℕ) → all_digits s ≡ true → all_plain s ≡ true
-unfolding all_digits all_plain
+unfolding all_digits
 digits-plain [] e = refl
 digits-plain (b ∷ s) e =
     let p = halves (is_digit b) (all_digits s) e in
