@@ -3,7 +3,8 @@ use mathlib.Core.Path.{◌≡◌, refl, sym, ap}
 use mathlib.Core.Bool.{Bool, true, false, cond}
 use mathlib.Core.Option.{Option}
 use mathlib.Core.List.{List, [], ◌∷◌}
-use Prim.Native.Nat.{ℕ, ◌+◌}
+use Prim.Native.Nat.{ℕ, ◌+◌, ◌≤◌, ◌<◌}
+use native.Mathlib.Omega.{arith}
 use borrow.Author.Tests.{ne_eqb}
 use lib.Dec.{eqb}
 use Rattle.key.specs.Keys.{Key}
@@ -35,11 +36,13 @@ name_of_kind k o x = go (eqb k map_kind) (eqb k sequence_kind) (eqb k string_kin
 pub name-is : {j k : ℕ} → k ≡ j → kind_shown j ≡ kind_shown k
 name-is e = sym (ap kind_shown e)
 
--- A kind that is none of the others' is Uninitialized's.
-pub name_of_other : (k : ℕ) → (k ≡ map_kind → ⊥) → (k ≡ sequence_kind → ⊥) → (k ≡ string_kind → ⊥) → (k ≡ null_kind → ⊥) → (k ≡ no_value_kind → ⊥)
-    → ascii "uninit" ≡ kind_shown k
-name_of_other k a b c d e =
-    rw (ne_eqb k map_kind a, ne_eqb k sequence_kind b, ne_eqb k string_kind c, ne_eqb k null_kind d, ne_eqb k no_value_kind e)
+-- A number that is no kind's counts as Uninitialized's.
+pub name_past : (k : ℕ) → no_value_kind < k → ascii "uninit" ≡ kind_shown k
+name_past k h =
+    let other : (j : ℕ) → j ≤ no_value_kind → k ≡ j → ⊥ = λ j f e. omega arith in
+    rw (ne_eqb k map_kind (other map_kind (omega arith)), ne_eqb k sequence_kind (other sequence_kind (omega arith)),
+      ne_eqb k string_kind (other string_kind (omega arith)), ne_eqb k null_kind (other null_kind (omega arith)),
+      ne_eqb k no_value_kind (other no_value_kind (omega arith)))
 
 -- A value of another kind than String has no bytes.
 pub no_bytes : (k : ℕ) (s : Value) → (k ≡ string_kind → ⊥) → bytes_of (plain (by_kind k s none)) ≡ Option.none

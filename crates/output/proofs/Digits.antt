@@ -6,24 +6,26 @@ use Prim.Native.Nat.{ℕ, zero, suc, ◌+◌, ◌/◌, ◌%◌, ◌≤◌, ◌<�
 use native.Mathlib.Omega.{arith}
 use borrow.Author.Tests.{lt-ltb, le-ltb, le-leb}
 use lib.Dec.{ltb}
-use lib.ListN.{length, drop, get_or, length-append, drop_of_length-le}
+use lib.ListN.{length, take, get_or, length-append}
 use Rattle.laws.proofs.Cases.{below}
-use Rattle.laws.proofs.Lists.{drop_1}
 use Rattle.ascii.specs.Digits.{is_digit, all_digits, value_from}
 use Rattle.ascii.proofs.Digits.{digits_join, value_join}
 use Rattle.output.specs.Numbers.{decimal_in, decimal, hex_digit, hex}
 use Rattle.output.specs.Decimals.{DecimalOf, Decimals}
-use Rattle.output.specs.Output.{Page, Puts}
-use Rattle.output.proofs.Pages.{puts_then, puts-same}
+use Rattle.output.specs.declared.Output.{Output}
+use Rattle.output.specs.Wrote.{Wrote}
+use Rattle.output.proofs.Wrote.{take_next, wrote_then, wrote-same}
 
-pub hex-more : (s : List ℕ) (i : ℕ) {h l : ℕ} → i < length s → h ≡ hex_digit (get_or s i 0 / 16) → l ≡ hex_digit (get_or s i 0 % 16)
-    → hex (drop i s) ≡ h ∷ l ∷ hex (drop (i + 1) s)
+hex_join : (s t : List ℕ) → hex (s ++ t) ≡ hex s ++ hex t
 unfolding hex
-hex-more s i q d e = rw (drop_1 s i q, d, e)
+hex_join [] t = refl
+hex_join (b ∷ s) t = ap (λ digits. hex_digit (b / 16) ∷ hex_digit (b % 16) ∷ digits) (hex_join s t)
 
-pub hex-done : (s : List ℕ) (i : ℕ) → length s ≤ i → hex (drop i s) ≡ []
+-- The digits of one byte more.
+pub hex_next : (s : List ℕ) (i : ℕ) {h l : ℕ} → i < length s → h ≡ hex_digit (get_or s i 0 / 16) → l ≡ hex_digit (get_or s i 0 % 16)
+    → hex (take (i + 1) s) ≡ hex (take i s) ++ (h ∷ l ∷ [])
 unfolding hex
-hex-done s i h = rw (drop_of_length-le s h)
+hex_next s i q d e = rw (take_next s i q, hex_join (take i s) (get_or s i 0 ∷ []), d, e)
 
 -- From as many steps as the number's value on, their count makes no difference.
 decimal-enough : (j k n : ℕ) → n ≤ j → n ≤ k → decimal_in j n ≡ decimal_in k n
@@ -63,11 +65,12 @@ pub counting_done : {n len rest : ℕ} → Counting n len rest → rest < 10 →
 counting_done {n} {len} {rest} c h =
     let e : length (decimal rest) ≡ 1 = ap length (decimal_digit rest h) in omega (arith, c.digits, e)
 
-pub puts_digit : {p p₁ : Page} (n : ℕ) → n < 10 → Puts ((48 + n % 10) ∷ []) p p₁ → Puts (decimal n) p p₁
-puts_digit n h e = puts-same e (sym (decimal_digit n h))
+pub wrote_digit : {p q : Output} (n : ℕ) → n < 10 → Wrote ((48 + n % 10) ∷ []) p q → Wrote (decimal n) p q
+wrote_digit n h w = wrote-same w (sym (decimal_digit n h))
 
-pub puts-digits : {p p₁ p₂ : Page} (n : ℕ) → 10 ≤ n → Puts (decimal (n / 10)) p p₁ → Puts ((48 + n % 10) ∷ []) p₁ p₂ → Puts (decimal n) p p₂
-puts-digits n h e f = puts-same (puts_then e f) (sym (decimal-more n h))
+pub wrote-digits : {p q r : Output} (n : ℕ) → 10 ≤ n → Wrote (decimal (n / 10)) p q → Wrote ((48 + n % 10) ∷ []) q r
+    → Wrote (decimal n) p r
+wrote-digits n h w v = wrote-same (wrote_then w v) (sym (decimal-more n h))
 
 -- The digits are those of the number in base ten: one more at the end, and all of them.
 first-before : (s : List ℕ) (d : ℕ) → 48 < get_or s 0 0 → 48 < get_or (s ++ (d ∷ [])) 0 0

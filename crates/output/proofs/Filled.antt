@@ -10,8 +10,10 @@ use lib.Dec.{leb}
 use lib.ListN.{length, take, drop, set, length-set, take-append-drop, drop_of_length-le}
 use lib.Seq.{take-nil, take_all, take-suc-set, drop-set-lt}
 use Rattle.laws.proofs.Cases.{below}
-use Rattle.output.specs.declared.Written.TheVariants.{Whole, Cut}
-use Rattle.output.specs.Output.{answer_at, filled, answer_for, page, put_byte, put, Puts}
+use Rattle.std.specs.Prelude.{Some, None}
+use Rattle.output.specs.declared.Output.{Output}
+use Rattle.output.specs.Wrote.{page_of, Wrote}
+use Rattle.output.specs.Output.{Page, answer_at, filled, answer_for, page, put_byte, put, Puts}
 
 -- The output from a place on, and the place after the bytes.
 abbrev from : List ℕ → List ℕ → ℕ → List ℕ
@@ -70,13 +72,13 @@ module _ (bytes out out' : List ℕ) (end : ℕ) (p : Puts bytes (page out 0) (p
   ends : end ≡ place (length bytes) (length out)
   ends = ap (λ q. q.at) whole
 
-  all_fit : end ≤ length out → Whole end ≡ answer_for bytes out
+  all_fit : end ≤ length out → Some end ≡ answer_for bytes out
   all_fit h =
       below (length out) (length bytes)
       (λ g. let e : end ≡ length out + 1 = ends ∙ rw (lt-leb (length bytes) (length out) g) in absurd (omega arith))
       (λ g. rw (ends, le-leb (length bytes) (length out) g))
 
-  some_cut : length out < end → Cut ≡ answer_for bytes out
+  some_cut : length out < end → None ≡ answer_for bytes out
   some_cut h =
       below (length out) (length bytes)
       (λ g. rw (lt-leb (length bytes) (length out) g))
@@ -86,3 +88,27 @@ module _ (bytes out out' : List ℕ) (end : ℕ) (p : Puts bytes (page out 0) (p
   pub answered : (size : ℕ) → size ≡ length out → answer_at end size ≡ answer_for bytes out
   answered size e =
       rw e (below (length out) end (λ g. rw (lt-leb end (length out) g) (some_cut g)) (λ g. rw (le-leb end (length out) g) (all_fit g)))
+
+-- Putting keeps the output's length.
+byte-length : (p : Page) (b : ℕ) → length (put_byte p b).out ≡ length p.out
+byte-length p b =
+    below p.at (length p.out) (λ g. rw (lt-ltb p.at (length p.out) g) (length-set p.out p.at b))
+    (λ g. rw (le-ltb p.at (length p.out) g))
+
+put-length : (bytes : List ℕ) (p : Page) → length (put p bytes).out ≡ length p.out
+unfolding put
+put-length [] p = refl
+put-length (b ∷ s) p = put-length s (put_byte p b) ∙ byte-length p b
+
+-- What a lent slice holds in the end, of which an output was made, into which the bytes were written.
+pub filled_by : {bytes out out' : List ℕ} {p q : Output} → (p.out.now ≡ out) × (p.at ≡ 0) → Wrote bytes p q → out' ≡ q.out.now
+    → out' ≡ filled bytes out
+filled_by {bytes} {out} {out'} {p} {q} s w e =
+    e ∙ all-filled bytes out q.out.now q.at (rw (← s.0, ← s.1) w.puts)
+
+-- And what is told of it then.
+pub answered_by : {bytes out : List ℕ} {p q : Output} → (p.out.now ≡ out) × (p.at ≡ 0) → Wrote bytes p q
+    → answer_at q.at (length q.out.now) ≡ answer_for bytes out
+answered_by {bytes} {out} {p} {q} s w =
+    answered bytes out q.out.now q.at (rw (← s.0, ← s.1) w.puts) (length q.out.now)
+    (ap (λ x. length x.out) w.puts.puts ∙ put-length bytes (page_of p) ∙ ap length s.0)

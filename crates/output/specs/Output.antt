@@ -1,19 +1,17 @@
 -- The output: a slice that is filled from its start on, and may be too short.
-use Rattle.std.specs.Prelude.{ℕ, ◌+◌, ◌≡◌, cond, List, [], ◌∷◌, ◌++◌, leb, ltb, length, take, drop, set}
-use Rattle.output.specs.declared.Written.{Written}
-use Rattle.output.specs.declared.Written.TheVariants.{Whole, Cut}
+use Rattle.std.specs.Prelude.{ℕ, ◌+◌, ◌≡◌, cond, List, [], ◌∷◌, ◌++◌, leb, ltb, length, take, drop, set, Option, Some, None}
 
 -- An output that is filled with these bytes from its start on: as many of them as it holds, and the further elements as
 -- they were.
 abbrev pub filled : List ℕ → List ℕ → List ℕ
 filled bytes out = take (length out) bytes ++ drop (length bytes) out
 
--- So many bytes in an output of a size: all of them, or that they were cut.
-abbrev pub answer_at : ℕ → ℕ → Written
-answer_at end size = cond (leb end size) (Whole end) Cut
+-- So many bytes in an output of a size: all of them, or none where they were cut.
+abbrev pub answer_at : ℕ → ℕ → Option ℕ
+answer_at end size = cond (leb end size) (Some end) None
 
 -- What is answered of an output that is filled with these bytes.
-abbrev pub answer_for : List ℕ → List ℕ → Written
+abbrev pub answer_for : List ℕ → List ℕ → Option ℕ
 answer_for bytes out = answer_at (length bytes) (length out)
 
 -- The output and the place of the next byte. Where a byte was cut the place is the length and one more.

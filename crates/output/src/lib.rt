@@ -1,53 +1,70 @@
-// Bytes and numbers written into an output that the caller lends, and that may be too short. Each writer writes from a
-// place on, leaves all else in the output as it was, and answers the place of the next byte. Bytes that find no room
-// are cut, and a place past the output's length tells it.
-// Clients cite specs/Output: `Puts` is the contract of each writer; `filled` is what stands in the output once all is
+// Bytes and numbers written into an output that the caller lends, and that may be too short. Each writer goes on from
+// the place that the output is at, leaves all else in it as it was, and moves the place on. Bytes that find no room are
+// cut, and a place past the output's length tells it.
+// Clients cite specs/Output: `Wrote` is the contract of each writer; `filled` is what stands in the output once all is
 // written, and `answer_for` what to answer then. Numbers are specs/Numbers, and specs/Decimals says what `decimal` is.
 // Below it stand bytes by name (ascii) and laws.
 #![tactic(auto)]
 
 pub mod numbers; // decimal and hex
 
-ghost use Rattle.std.specs.Prelude.{◌≡◌, [], ◌∷◌};
-ghost use Rattle.output.specs.Output.{answer_at, page, Puts};
+ghost use Rattle.std.specs.Prelude.{◌≡◌, [], ◌∷◌, length};
+ghost use Rattle.output.specs.Output.{answer_at};
+ghost use Rattle.output.specs.Wrote.{Wrote};
 
-// What is told of an output once all is written: the number of bytes, or that it holds only the first of them.
-#[derive(Clone, Copy)]
-pub enum Written {
-    Whole(usize),
-    Cut,
+// A lent slice that is written from its start on, and the place of the next byte: past the end, once some were cut.
+pub struct Output<'a> {
+    pub out: &'a mut [u8],
+    pub at: usize,
 }
 
-// The answer once bytes are written up to a place, which is past the output's length where some were cut.
-pub fn answer_at(end: usize, size: usize) -> Written
-    ensures { result ≡ answer_at end size }
-{
-    if end <= size {
-        return Written::Whole(end);
+// Its end leaves the lent slice as it is then.
+impl Drop for Output<'_> {
+    fn drop(self)
+        ensures { self.exit.0.now ≡ self.entry.out.now }
+    {
+        let Output { out: _, at: _ } = self;
     }
-    Written::Cut
 }
 
-// Writes a byte.
-pub fn write_byte(byte: u8, out: &mut [u8], at: usize) -> usize
-    ensures { Puts (byte ∷ []) (page out.old at) (page out.new result) }
-{
-    if at < out.len() {
-        out[at] = byte;
-        return at + 1;
+impl<'a> Output<'a> {
+    // An output of which nothing is written.
+    pub fn new(out: &'a mut [u8]) -> Output<'a>
+        ensures same { result.out.ghost_name ≡ out.entry.ghost_name }
+        ensures start { (result.out.now ≡ out.old) × (result.at ≡ 0) }
+    {
+        Output { out, at: 0 }
     }
-    out.len() + 1
-}
 
-// Writes bytes as they are.
-pub fn write_bytes(bytes: &[u8], out: &mut [u8], at: usize) -> usize
-    ensures { Puts bytes.now (page out.old at) (page out.new result) }
-{
-    let mut next = at;
-    let mut i = 0;
-    while i < bytes.len() {
-        next = write_byte(bytes[i], out, next);
-        i += 1;
+    // How many bytes are written, or none where some were cut.
+    pub fn whole(&self) -> Option<usize>
+        ensures { result ≡ answer_at self.now.at (length self.now.out.now) }
+    {
+        if self.at <= self.out.len() {
+            Some(self.at)
+        } else {
+            None
+        }
     }
-    next
+
+    // Writes a byte.
+    pub fn write_byte(&mut self, byte: u8)
+        ensures { Wrote (byte ∷ []) self.old self.new }
+    {
+        if self.at < self.out.len() {
+            self.out[self.at] = byte;
+            self.at += 1;
+        } else {
+            self.at = self.out.len() + 1;
+        }
+    }
+
+    // Writes bytes as they are.
+    pub fn write_bytes(&mut self, bytes: &[u8])
+        ensures { Wrote bytes.now self.old self.new }
+    {
+        for byte in bytes {
+            self.write_byte(*byte);
+        }
+    }
 }

@@ -1,13 +1,14 @@
 -- READING, 'Records': the kinds of values and keys, by their numbers (Row).
 use Rattle.std.specs.Prelude.{ℕ, List, ◌≡◌, ◌≢◌, ◌<◌, Option, MatchOption, Result, MatchResult}
+use Rattle.std.specs.Borrow.{Bor}
 use Rattle.row.specs.declared.kind.Kind.{Kind}
 use Rattle.row.specs.declared.kind.Kind.TheVariants.{Uninitialized, Map, Sequence, String, Null, NoValue}
 use Rattle.row.specs.declared.kind.KeyKind.{KeyKind}
 use Rattle.row.specs.declared.kind.KeyKind.TheVariants.{None, Int, String as StringKey}
 use Rattle.row.specs.declared.kind.UnknownKind.{UnknownKind}
 use Rattle.row.specs.Row.{uninitialized_kind, map_kind, sequence_kind, string_kind, null_kind, no_value_kind}
-use Rattle.row.specs.Row.{no_key_kind, int_key_kind, string_key_kind, key_kind_word, key_word}
-use Rattle.row.specs.Words.{word}
+use Rattle.row.specs.Row.{no_key_kind, int_key_kind, string_key_kind, kind_word, key_kind_word, key_word}
+use Rattle.row.specs.Words.{word, string_part}
 
 -- The number of a kind.
 abbrev pub kind_number : Kind → ℕ
@@ -38,3 +39,9 @@ abbrev pub IntKeyOf : List ℕ → ℕ → Option ℕ → Type 0
 IntKeyOf ws n r =
     MatchOption r (word ws n key_kind_word ≢ int_key_kind)
     (λ int. (word ws n key_kind_word ≡ int_key_kind) × (int ≡ word ws n key_word))
+
+-- The text of record n's value if it is a String, and none if it isn't.
+abbrev pub StringOf : List ℕ → List ℕ → ℕ → Option (Bor (List ℕ)) → Type 0
+StringOf ws text n r =
+    MatchOption r (word ws n kind_word ≢ string_kind)
+    (λ bytes. (word ws n kind_word ≡ string_kind) × (bytes.now ≡ string_part ws text n))

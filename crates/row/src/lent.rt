@@ -3,7 +3,7 @@
 ghost use Rattle.std.specs.Prelude.{◌≡◌, ◌<◌};
 ghost use Rattle.row.specs.Row.{record_width, kind_word};
 ghost use Rattle.row.specs.Words.{word, key_part, string_part};
-ghost use Rattle.row.specs.Kinds.{KindOf, IntKeyOf};
+ghost use Rattle.row.specs.Kinds.{KindOf, IntKeyOf, StringOf};
 
 use crate::{KeyKind, Kind, UnknownKind};
 
@@ -59,5 +59,15 @@ impl<'a> Lent<'a> {
             self.word(n, crate::TEXT),
             self.word(n, crate::TEXT_LEN),
         )
+    }
+
+    // The text of record n's value where it is a String.
+    pub fn string(self, n: u32) -> Option<&'a [u8]>
+        ensures { StringOf self.entry.words.now self.entry.text.now n result }
+    {
+        match self.kind(n) {
+            Ok(Kind::String) => Some(self.string_part(n)),
+            _ => None,
+        }
     }
 }

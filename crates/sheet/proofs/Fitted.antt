@@ -1,31 +1,29 @@
 -- What stands in so many columns: spaces, bytes as they are shown, digits, letters.
 use mathlib.Core.Path.{◌≡◌, refl, sym, ap, ap₂, ◌∙◌}
 use mathlib.Core.Bool.{true}
-use mathlib.Core.List.{List, [], ◌∷◌, ◌++◌, map, append-nil}
+use mathlib.Core.List.{List, [], ◌∷◌, ◌++◌, map, map-append, append-nil}
 use Prim.Native.Nat.{ℕ, zero, suc, ◌+◌, ◌-◌, ◌^◌, ◌≤◌, ◌<◌}
+use native.Mathlib.Numerals.{add-one}
 use native.Mathlib.Omega.{arith}
 use borrow.Author.Tests.{le-leb, lt-leb}
-use lib.ListN.{length, take, drop, get_or, length-replicate, drop_of_length-le}
+use lib.ListN.{length, take, drop, get_or, length-replicate}
 use Rattle.laws.proofs.Cases.{halves}
-use Rattle.laws.proofs.Lists.{drop_1}
 use Rattle.ascii.specs.Digits.{is_digit, all_digits}
 use Rattle.ascii.proofs.Digits.{digit_is}
 use Rattle.output.specs.Numbers.{decimal}
 use Rattle.output.specs.Output.{filled}
 use Rattle.output.proofs.Digits.{decimals}
+use Rattle.output.proofs.Wrote.{take_next}
 use Rattle.output.proofs.Lengths.{decimal-length}
 use Rattle.sheet.specs.Line.{blanks, right_aligned, letters, visible, fitted}
 
--- Spaces: one and the others, or none.
-pub blanks-more : (n : ℕ) → (n ≡ 0 → ⊥) → blanks n ≡ 32 ∷ blanks (n - 1)
-blanks-more zero h = absurd (h refl)
-blanks-more (suc n) h = let e : n ≡ suc n - 1 = omega arith in ap (λ m. 32 ∷ blanks m) e
+-- Spaces: one more behind the others.
+blanks-suc : (n : ℕ) → blanks n ++ (32 ∷ []) ≡ blanks (suc n)
+blanks-suc zero = refl
+blanks-suc (suc n) = ap (λ s. 32 ∷ s) (blanks-suc n)
 
-pub no-blanks : (wide used : ℕ) → wide ≤ used → [] ≡ blanks (wide - used)
-no-blanks wide used h = let e : wide - used ≡ 0 = omega arith in sym (ap blanks e)
-
-pub blanks-done : (n : ℕ) → n ≡ 0 → blanks n ≡ []
-blanks-done n e = ap blanks e
+pub blanks_next : (n : ℕ) → blanks n ++ (32 ∷ []) ≡ blanks (n + 1)
+blanks_next n = rw (add-one n) (blanks-suc n)
 
 -- A byte as it is shown: below 33, above 126, and between.
 pub visible-low : (b : ℕ) → b < 33 → 46 ≡ visible b
@@ -40,22 +38,19 @@ pub visible-same : (b : ℕ) → 33 ≤ b → b ≤ 126 → b ≡ visible b
 unfolding visible
 visible-same b h k = rw (le-leb 33 b h, le-leb b 126 k)
 
--- Bytes as they are shown, from i on.
-pub visible_more : (s : List ℕ) (i : ℕ) {b : ℕ} → i < length s → b ≡ visible (get_or s i 0)
-    → map visible (drop i s) ≡ b ∷ map visible (drop (i + 1) s)
-visible_more s i h e = rw (drop_1 s i h, e)
-
-pub visible-done : (s : List ℕ) (i : ℕ) → length s ≤ i → map visible (drop i s) ≡ []
-visible-done s i h = rw (drop_of_length-le s h)
+-- One byte more as it is shown.
+pub visible_next : (s : List ℕ) (i : ℕ) {b : ℕ} → i < length s → b ≡ visible (get_or s i 0)
+    → map visible (take i s) ++ (b ∷ []) ≡ map visible (take (i + 1) s)
+visible_next s i h e = rw (take_next s i h, e) (sym (map-append visible (take i s) (get_or s i 0 ∷ [])))
 
 -- Bytes that fit, and bytes that are too many.
 pub fitted-whole : (wide : ℕ) (s : List ℕ) → length s ≤ wide → map visible s ++ blanks (wide - length s) ≡ fitted wide s
 unfolding fitted
 fitted-whole wide s h = rw (le-leb (length s) wide h)
 
-pub fitted_cut : (wide : ℕ) (s : List ℕ) → wide < length s → map visible (take (wide - 1 - 0) s) ++ (62 ∷ []) ≡ fitted wide s
+pub fitted_cut : (wide : ℕ) (s : List ℕ) → wide < length s → map visible (take (wide - 1) s) ++ (62 ∷ []) ≡ fitted wide s
 unfolding fitted
-fitted_cut wide s h = let e : wide - 1 - 0 ≡ wide - 1 = omega arith in rw (e, lt-leb (length s) wide h)
+fitted_cut wide s h = rw (lt-leb (length s) wide h)
 
 -- Digits are shown as they are.
 pub digits_same : (s : List ℕ) → all_digits s ≡ true → map visible s ≡ s
@@ -67,15 +62,16 @@ digits_same (b ∷ s) e =
     ap₂ ◌∷◌ (sym (visible-same b (omega (arith, d.0)) (omega (arith, d.1)))) (digits_same s p.1)
 
 -- A number at the left of as many columns as any has digits, and one at the right.
-pub fitted-number : (wide n used : ℕ) → 10 ≤ wide → n < 2 ^ 32 → used ≡ length (decimal n) → decimal n ++ blanks (wide - used) ≡ fitted wide (decimal n)
-fitted-number wide n used h k e =
-    ap (λ u. decimal n ++ blanks (wide - u)) e
+pub fitted-number : (wide n rest : ℕ) → 10 ≤ wide → n < 2 ^ 32 → rest ≡ wide - length (decimal n)
+    → decimal n ++ blanks rest ≡ fitted wide (decimal n)
+fitted-number wide n rest h k e =
+    ap (λ r. decimal n ++ blanks r) e
     ∙ sym (ap (λ s. s ++ blanks (wide - length (decimal n))) (digits_same (decimal n) (decimals n).digits))
     ∙ fitted-whole wide (decimal n) (omega (arith, decimal-length n k))
 
-pub right_number : (wide n used : ℕ) → used ≡ length (decimal n) → blanks (wide - used) ++ decimal n ≡ right_aligned wide (decimal n)
+pub right_number : (wide n rest : ℕ) → rest ≡ wide - length (decimal n) → blanks rest ++ decimal n ≡ right_aligned wide (decimal n)
 unfolding right_aligned
-right_number wide n used e = rw e
+right_number wide n rest e = rw e
 
 -- Of no bytes all columns are spaces.
 pub fitted_nothing : (wide : ℕ) → blanks wide ≡ fitted wide []

@@ -10,14 +10,18 @@ mod cells; // what stands in the columns, whatever it is of
 
 ghost use Rattle.std.specs.Prelude.{◌++◌};
 ghost use Rattle.ascii.specs.Texts.{ascii};
+ghost use Rattle.row.specs.Row.{kind_word};
+ghost use Rattle.row.specs.Words.{word};
 ghost use Rattle.output.specs.Numbers.{decimal};
-ghost use Rattle.output.specs.Output.{page, Puts};
+ghost use Rattle.output.specs.Wrote.{Wrote};
 ghost use Rattle.listed.specs.Listed.{bytes_of};
 ghost use Rattle.listed.specs.Walking.{key_shown, childless, kind_shown, item_in};
 ghost use Rattle.sheet.specs.Columns.{level_columns, length_columns, kind_columns, key_columns, text_columns, width};
 ghost use Rattle.sheet.specs.Line.{right_aligned, letters, fitted, length_item, key_item, text_item, line};
 
 use listed::Item;
+use output::Output;
+use row::Lent;
 
 // The widths of the columns: 1 to 3, 5 to 9, 11 to 14, 16 to 40 and 42 to 72.
 const LEVEL_WIDTH: usize = 3;
@@ -34,113 +38,107 @@ const TEXT_WIDTH: usize = 31;
 pub const LINE_BYTES: usize = 73;
 
 // Writes a level, and a space.
-fn write_level(level: usize, out: &mut [u8], at: usize) -> usize
-    ensures { Puts (right_aligned (width level_columns) (decimal level) ++ ascii " ")
-        (page out.old at) (page out.new result) }
+fn write_level(level: usize, out: &mut Output)
+    ensures { Wrote (right_aligned (width level_columns) (decimal level) ++ ascii " ") out.old out.new }
 {
-    let end = cells::write_right(level, LEVEL_WIDTH, out, at);
-    output::write_byte(b' ', out, end)
+    cells::write_right(level, LEVEL_WIDTH, out);
+    out.write_byte(b' ');
 }
 
 // Writes a String's length; of a value of another kind, spaces.
-fn write_size(words: &[u32], text: &[u8], n: u32, out: &mut [u8], at: usize) -> usize
-    ensures { Puts
+fn write_size(lent: Lent, n: u32, out: &mut Output)
+    ensures { Wrote
         (right_aligned (width length_columns)
-        (length_item (bytes_of (childless words.now text.now n))))
-        (page out.old at) (page out.new result) }
+        (length_item (bytes_of (childless lent.entry.words.now lent.entry.text.now n))))
+        out.old out.new }
 {
-    let kind = row::word_or_zero(words, n, row::KIND);
-    if kind == row::STRING {
-        let bytes = listed::string_part(words, text, n);
-        return cells::write_right(bytes.len(), LENGTH_WIDTH, out, at);
+    match lent.string(n) {
+        Some(bytes) => cells::write_right(bytes.len(), LENGTH_WIDTH, out),
+        None => cells::write_blanks(LENGTH_WIDTH, out),
     }
-    cells::write_blanks(LENGTH_WIDTH, out, at)
 }
 
 // Writes a value's length, and a space.
-fn write_length(words: &[u32], text: &[u8], n: u32, out: &mut [u8], at: usize) -> usize
-    ensures { Puts
+fn write_length(lent: Lent, n: u32, out: &mut Output)
+    ensures { Wrote
         (right_aligned (width length_columns)
-        (length_item (bytes_of (childless words.now text.now n))) ++ ascii " ")
-        (page out.old at) (page out.new result) }
+        (length_item (bytes_of (childless lent.entry.words.now lent.entry.text.now n))) ++ ascii " ")
+        out.old out.new }
 {
-    let end = write_size(words, text, n, out, at);
-    output::write_byte(b' ', out, end)
+    write_size(lent, n, out);
+    out.write_byte(b' ');
 }
 
 // Writes the first letters of a kind's name, and a space. The name is cut in a room as wide as its columns.
-fn write_kind(kind: u32, out: &mut [u8], at: usize) -> usize
-    ensures { Puts (letters (width kind_columns) (kind_shown kind) ++ ascii " ")
-        (page out.old at) (page out.new result) }
+fn write_kind(lent: Lent, n: u32, out: &mut Output)
+    ensures { Wrote
+        (letters (width kind_columns) (kind_shown (word lent.entry.words.now n kind_word)) ++ ascii " ")
+        out.old out.new }
 {
-    let mut name = [b' '; KIND_WIDTH];
-    listed::write_kind(kind, &mut name, 0);
-    let end = output::write_bytes(&name, out, at);
-    output::write_byte(b' ', out, end)
+    let mut letters = [b' '; KIND_WIDTH];
+    Output::new(&mut letters).write_bytes(listed::kind_name(lent, n));
+    out.write_bytes(&letters);
+    out.write_byte(b' ');
 }
 
 // Writes a key: an Int in decimal, a String's bytes; of a value without one, spaces.
-fn write_name(words: &[u32], text: &[u8], item: Item, out: &mut [u8], at: usize) -> usize
-    ensures { Puts
+fn write_name(lent: Lent, item: Item, out: &mut Output)
+    ensures { Wrote
         (fitted (width key_columns)
-        (key_item (key_shown item.keyed words.now text.now item.n)))
-        (page out.old at) (page out.new result) }
+        (key_item (key_shown item.keyed lent.entry.words.now lent.entry.text.now item.n)))
+        out.old out.new }
 {
     if !item.keyed {
-        return cells::write_blanks(KEY_WIDTH, out, at);
+        return cells::write_blanks(KEY_WIDTH, out);
     }
-    let kind = row::word_or_zero(words, item.n, row::KEY_KIND);
-    let key = row::word_or_zero(words, item.n, row::KEY);
-    if kind == row::INT_KEY {
-        return cells::write_left(key, KEY_WIDTH, out, at);
+    match lent.int_key(item.n) {
+        Some(int) => cells::write_left(int, KEY_WIDTH, out),
+        None => cells::write_fitted(lent.key_part(item.n), KEY_WIDTH, out),
     }
-    let len = row::word_or_zero(words, item.n, row::KEY_LEN);
-    cells::write_fitted(row::text_part(text, key, len), KEY_WIDTH, out, at)
 }
 
 // Writes a value's key, and a space.
-fn write_key(words: &[u32], text: &[u8], item: Item, out: &mut [u8], at: usize) -> usize
-    ensures { Puts
+fn write_key(lent: Lent, item: Item, out: &mut Output)
+    ensures { Wrote
         (fitted (width key_columns)
-        (key_item (key_shown item.keyed words.now text.now item.n)) ++ ascii " ")
-        (page out.old at) (page out.new result) }
+        (key_item (key_shown item.keyed lent.entry.words.now lent.entry.text.now item.n)) ++ ascii " ")
+        out.old out.new }
 {
-    let end = write_name(words, text, item, out, at);
-    output::write_byte(b' ', out, end)
+    write_name(lent, item, out);
+    out.write_byte(b' ');
 }
 
 // Writes a String's bytes; of a value of another kind, spaces.
-fn write_bytes(words: &[u32], text: &[u8], n: u32, out: &mut [u8], at: usize) -> usize
-    ensures { Puts
-        (fitted (width text_columns) (text_item (bytes_of (childless words.now text.now n))))
-        (page out.old at) (page out.new result) }
+fn write_bytes(lent: Lent, n: u32, out: &mut Output)
+    ensures { Wrote
+        (fitted (width text_columns)
+        (text_item (bytes_of (childless lent.entry.words.now lent.entry.text.now n))))
+        out.old out.new }
 {
-    let kind = row::word_or_zero(words, n, row::KIND);
-    if kind != row::STRING {
-        return cells::write_blanks(TEXT_WIDTH, out, at);
+    match lent.string(n) {
+        Some(bytes) => cells::write_fitted(bytes, TEXT_WIDTH, out),
+        None => cells::write_blanks(TEXT_WIDTH, out),
     }
-    cells::write_fitted(listed::string_part(words, text, n), TEXT_WIDTH, out, at)
 }
 
 // Writes a value's text, and a newline.
-fn write_text(words: &[u32], text: &[u8], n: u32, out: &mut [u8], at: usize) -> usize
-    ensures { Puts
-        (fitted (width text_columns) (text_item (bytes_of (childless words.now text.now n)))
-        ++ ascii "\n")
-        (page out.old at) (page out.new result) }
+fn write_text(lent: Lent, n: u32, out: &mut Output)
+    ensures { Wrote
+        (fitted (width text_columns)
+        (text_item (bytes_of (childless lent.entry.words.now lent.entry.text.now n))) ++ ascii "\n")
+        out.old out.new }
 {
-    let end = write_bytes(words, text, n, out, at);
-    output::write_byte(b'\n', out, end)
+    write_bytes(lent, n, out);
+    out.write_byte(b'\n');
 }
 
 // Writes the line of a value.
-pub fn write_line(words: &[u32], text: &[u8], item: Item, out: &mut [u8], at: usize) -> usize
-    ensures { Puts (line (item_in words.now text.now item))
-        (page out.old at) (page out.new result) }
+pub fn write_line(lent: Lent, item: Item, out: &mut Output)
+    ensures { Wrote (line (item_in lent.entry.words.now lent.entry.text.now item)) out.old out.new }
 {
-    let size = write_level(item.level, out, at);
-    let kind = write_length(words, text, item.n, out, size);
-    let key = write_kind(row::word_or_zero(words, item.n, row::KIND), out, kind);
-    let bytes = write_key(words, text, item, out, key);
-    write_text(words, text, item.n, out, bytes)
+    write_level(item.level, out);
+    write_length(lent, item.n, out);
+    write_kind(lent, item.n, out);
+    write_key(lent, item, out);
+    write_text(lent, item.n, out);
 }

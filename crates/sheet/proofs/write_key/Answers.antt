@@ -1,6 +1,5 @@
--- The key and the space are written one behind the other.
-use Rattle.output.proofs.Pages.{puts_then}
+use Rattle.output.proofs.Wrote.{wrote_then}
 use Rattle.sheet.proofs.write_key.Goals as goal
 
 pub returns : goal.returns
-returns c = puts_then c.write_name-end.ensures c.write_byte.ensures
+returns c = wrote_then c.write_name.ensures c.write_byte.ensures

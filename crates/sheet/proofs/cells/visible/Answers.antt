@@ -1,12 +1,13 @@
--- The two bounds are asked for one after the other, and between them the byte is shown as it is.
+-- What is outside the two bounds is shown as a full stop.
+use native.Mathlib.Omega.{arith}
 use Rattle.sheet.proofs.Fitted.{visible-low, visible-high, visible-same}
 use Rattle.sheet.proofs.cells.visible.Goals as goal
 
-pub returns-then-b-lt33 : goal.returns-then-b-lt33
-returns-then-b-lt33 c = visible-low _ c.if-b-lt33.true
+pub returns-in-33-to-126 : goal.returns-in-33-to-126
+returns-in-33-to-126 c = visible-same _ (omega arith) (omega arith)
 
-pub returns-then-b-gt126 : goal.returns-then-b-gt126
-returns-then-b-gt126 c = visible-high _ c.if-b-gt126.true
+pub returns-in_default : goal.returns-in_default
+returns-in_default c = visible-low _ (omega arith)
 
-pub returns : goal.returns
-returns c = visible-same _ c.if-b-lt33.false c.if-b-gt126.false
+pub returns-in_default-2 : goal.returns-in_default-2
+returns-in_default-2 c = visible-high _ (omega arith)

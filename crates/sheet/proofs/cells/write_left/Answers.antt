@@ -1,10 +1,12 @@
 -- The digits are shown as they are, no u32 has more than ten, and spaces fill the columns behind them.
-use Rattle.output.proofs.Pages.{puts_then, puts-same}
 use native.Mathlib.Omega.{arith}
+use mathlib.Core.Path.{◌∙◌, ap}
+use Prim.Native.Nat.{◌-◌}
+use Rattle.output.proofs.Wrote.{wrote_then, wrote-same}
 use Rattle.sheet.proofs.Fitted.{fitted-number}
 use Rattle.sheet.proofs.cells.write_left.Goals as goal
 
 pub returns : goal.returns
 returns c =
-    puts-same (puts_then c.write_decimal-end.ensures c.write_padding.ensures)
-    (fitted-number c.args.wide c.args.n _ c.requires (omega arith) c.decimal_len.ensures)
+    wrote-same (wrote_then c.write_decimal.ensures c.write_blanks.ensures)
+    (fitted-number c.args.wide c.args.n _ c.requires (omega arith) (c.saturating_sub.ensures ∙ ap (λ used. c.args.wide - used) c.decimal_len.ensures))

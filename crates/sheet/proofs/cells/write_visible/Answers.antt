@@ -1,17 +1,11 @@
-use Rattle.output.proofs.Pages.{putting_start, putting_more, putting_done}
-use Rattle.sheet.proofs.Fitted.{visible_more, visible-done}
+use Rattle.output.proofs.Wrote.{wrote_nothing, wrote_then, wrote-same}
+use Rattle.sheet.proofs.Fitted.{visible_next}
 use Rattle.sheet.proofs.cells.write_visible.Goals as goal
 
-pub loop-i-init : goal.loop-i-init
-loop-i-init c = putting_start _ _ _
+pub loop-byte-init : goal.loop-byte-init
+loop-byte-init c = wrote_nothing _
 
-pub loop-i-preserved : goal.loop-i-preserved
-loop-i-preserved c =
-    putting_more c.loop-i.invariant (visible_more _ _ c.loop-i-test.true c.visible.ensures)
-    c.write_byte-next.ensures c.write_byte-next.auto.out
-
-pub shape_of-out : goal.shape_of-out
-shape_of-out c = c.loop-i.invariant.long
-
-pub returns : goal.returns
-returns c = putting_done c.loop-i.invariant (visible-done _ _ c.loop-i-test.false)
+pub loop-byte-preserved : goal.loop-byte-preserved
+loop-byte-preserved c =
+    wrote-same (wrote_then c.loop-byte.invariant c.write_byte.ensures)
+    (visible_next _ _ c.loop-byte-test.true c.visible.ensures)

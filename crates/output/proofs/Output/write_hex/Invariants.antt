@@ -1,0 +1,8 @@
+-- So far the digits of the bytes before the index are written.
+use Rattle.std.specs.Prelude.{take}
+use Rattle.output.specs.Numbers.{hex}
+use Rattle.output.specs.Wrote.{Wrote}
+use Rattle.output.proofs.Output.write_hex.Given as goal
+
+abbrev pub invariant-loop-byte : goal.invariant-loop-byte
+invariant-loop-byte l = Wrote (hex (take l.byte-index l.bytes)) l.initial.self l.self
