@@ -1,6 +1,6 @@
 -- The loop over the names: the answers so far stand in front, those due follow, and the rest is as it was.
 use Prim.Native.Nat.{ℕ, ◌+◌, ◌*◌, ◌-◌, ◌<◌, ◌≤◌}
-use mathlib.Core.Path.{◌≡◌, refl, ap, sym, ◌∙◌}
+use mathlib.Core.Path.{◌≡◌, ap, sym, ◌∙◌}
 use mathlib.Core.Bool.{true}
 use mathlib.Core.List.{List, ◌++◌, flat_map, append_assoc, append-nil}
 use native.Mathlib.Omega.{arith}
@@ -9,7 +9,9 @@ use lib.ListN.{length, get_or, take, drop, drop_of_length-le, length-append, len
 use lib.Seq.{length-take-le, take_at, drop_at, drop-drop, sets-eq}
 use Rattle.laws.proofs.Lists.{drop_1}
 use Rattle.row.specs.Words.{text_part}
-use Rattle.fields.specs.declared.text.TextRead.{TextRead}
+use Rattle.std.specs.Prelude.{Result}
+use Rattle.refusals.specs.declared.Refusal.{Refusal}
+use Rattle.fields.specs.declared.text.Text.{Text}
 use Rattle.lookups.specs.declared.answers.Answer.{Answer}
 use Rattle.lookups.specs.Names.{ends_fit, names_from, names_in}
 use Rattle.lookups.specs.Answers.{answer_width, answer_of, answer_words, answers_of, over, with_answer}
@@ -25,7 +27,7 @@ with_answer_lem ws at a h =
 pub length_with_answer : (ws : List ℕ) (at : ℕ) (a : Answer) → length (with_answer ws at a) ≡ length ws
 length_with_answer ws at a = simp length-set
 
-module _ (f : List ℕ → TextRead) (bytes ends old : List ℕ) where
+module _ (f : List ℕ → Result Text Refusal) (bytes ends old : List ℕ) where
   pub record Answering (answers : List ℕ) (start i : ℕ) : Type 0 where
     pub within : i ≤ length ends
     pub fit : ends_fit start (length bytes) (drop i ends) ≡ true
@@ -34,10 +36,7 @@ module _ (f : List ℕ → TextRead) (bytes ends old : List ℕ) where
     pub so_far : take (i * answer_width) answers ++ answers_of f (names_from start bytes (drop i ends)) ≡ answers_of f (names_in bytes ends)
     pub rest : drop (i * answer_width) answers ≡ drop (i * answer_width) old
 
-  pub answering_start : ends_fit 0 (length bytes) ends ≡ true → length ends * answer_width ≤ length old → Answering old 0 0
-  answering_start e h = record { within = omega arith; fit = e; room = h; long = refl; so_far = refl; rest = refl }
-
-module _ {f : List ℕ → TextRead} {bytes ends old answers : List ℕ} {start i : ℕ} (v : Answering f bytes ends old answers start i) where
+module _ {f : List ℕ → Result Text Refusal} {bytes ends old answers : List ℕ} {start i : ℕ} (v : Answering f bytes ends old answers start i) where
   module _ (h : i < length ends) where
     end : ℕ
     end = get_or ends i 0

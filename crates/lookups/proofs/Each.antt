@@ -5,18 +5,20 @@ use mathlib.Core.List.{List, [], ◌∷◌, ◌++◌, flat_map}
 use native.Mathlib.Omega.{arith}
 use lib.ListN.{length, get_or}
 use Rattle.row.specs.Words.{text_part}
-use Rattle.fields.specs.declared.text.TextRead.{TextRead}
+use Rattle.std.specs.Prelude.{Result}
+use Rattle.refusals.specs.declared.Refusal.{Refusal}
+use Rattle.fields.specs.declared.text.Text.{Text}
 use Rattle.lookups.specs.Names.{names_from, names_in}
 use Rattle.lookups.specs.Answers.{answer_width, answer_of, answers_of}
 use Rattle.lookups.specs.Each.{name_of, answer_at}
 
 -- Names that are read alike are answered alike.
-pub answers-same : (f g : List ℕ → TextRead) → ((name : List ℕ) → f name ≡ g name) → (names : List (List ℕ)) → answers_of f names ≡ answers_of g names
+pub answers-same : (f g : List ℕ → Result Text Refusal) → ((name : List ℕ) → f name ≡ g name) → (names : List (List ℕ)) → answers_of f names ≡ answers_of g names
 unfolding flat_map
 answers-same f g e [] = refl
 answers-same f g e (name ∷ names) = rw (e name, answers-same f g e names)
 
-module _ (f : List ℕ → TextRead) where
+module _ (f : List ℕ → Result Text Refusal) where
   pub answers-length : (names : List (List ℕ)) → length (answers_of f names) ≡ length names * answer_width
   unfolding flat_map
   answers-length [] = refl

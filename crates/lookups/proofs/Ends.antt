@@ -1,6 +1,6 @@
 -- The loop that tests the ends, and what ends that fit say of the next name.
 use Prim.Native.Nat.{ℕ, ◌+◌, ◌<◌, ◌≤◌}
-use mathlib.Core.Path.{◌≡◌, refl, sym}
+use mathlib.Core.Path.{◌≡◌, sym}
 use mathlib.Core.Bool.{true, false}
 use mathlib.Core.List.{List, ◌∷◌}
 use native.Mathlib.Omega.{arith}
@@ -15,9 +15,6 @@ use Rattle.lookups.specs.Names.{ends_fit}
 pub record Fitting (size : ℕ) (ends : List ℕ) (start i : ℕ) : Type 0 where
   pub within : i ≤ length ends
   pub so_on : ends_fit start size (drop i ends) ≡ ends_fit 0 size ends
-
-pub fitting_start : (size : ℕ) (ends : List ℕ) → Fitting size ends 0 0
-fitting_start size ends = record { within = omega arith; so_on = refl }
 
 module _ {size : ℕ} {ends : List ℕ} {start i : ℕ} (v : Fitting size ends start i) where
   module _ (h : i < length ends) where

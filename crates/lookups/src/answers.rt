@@ -3,11 +3,11 @@ ghost use Rattle.std.specs.Prelude.{◌≡◌, true, ◌+◌, ◌*◌, ◌<◌, 
 ghost use Rattle.row.specs.Words.{record_count};
 ghost use Rattle.fields.specs.OnRecords.{Readable, field_at, field_text_at};
 ghost use Rattle.lookups.specs.Names.{ends_fit, names_in};
-ghost use Rattle.lookups.specs.Answers.{answer_width, answer_of, answers_of, over, with_answer};
+ghost use Rattle.lookups.specs.Answers.{answer_width, answers_of, over, with_answer};
 
-use fields::text::TextRead;
+use fields::text::Text;
 use fields::{DuplicateKeyBehavior, text};
-use refusals::code;
+use refusals::Refusal;
 
 // The words of an answer.
 pub const WIDTH: usize = 3;
@@ -21,20 +21,24 @@ pub struct Answer {
 }
 
 // The answer of a text read. Under a refusal, offset and length are 0.
-fn answer_of(read: TextRead) -> Answer
-    ensures { result ≡ answer_of read }
-{
-    match read {
-        TextRead::Text(offset, len) => Answer {
-            number: 0,
-            offset,
-            len,
-        },
-        TextRead::Refused(refusal) => Answer {
-            number: code(refusal),
-            offset: 0,
-            len: 0,
-        },
+impl From<Result<Text, Refusal>> for Answer {
+    ghost use Rattle.lookups.specs.Answers.{answer_of};
+
+    ghost from_gives = { λ read answer. answer ≡ answer_of read };
+
+    fn from(read: Result<Text, Refusal>) -> Answer {
+        match read {
+            Ok(Text { offset, len }) => Answer {
+                number: 0,
+                offset,
+                len,
+            },
+            Err(refusal) => Answer {
+                number: refusal.into(),
+                offset: 0,
+                len: 0,
+            },
+        }
     }
 }
 
@@ -66,13 +70,11 @@ pub fn answer_names(
         (field_at words.now text.now name)) (names_in names.now ends.now))
         answers.old }
 {
-    let mut start: usize = 0;
-    let mut i = 0;
-    while i < ends.len() {
-        let end = ends[i] as usize;
+    let mut start = 0;
+    for (i, end) in ends.iter().enumerate() {
+        let end = *end as usize;
         let read = text::field_text(words, text, &names[start..end], duplicates);
-        write_answer(answers, i * WIDTH, answer_of(read));
+        write_answer(answers, i * WIDTH, read.into());
         start = end;
-        i += 1;
     }
 }

@@ -6,18 +6,13 @@ ghost use Rattle.lookups.specs.Names.{ends_fit};
 pub fn ends_fit(ends: &[u32], size: usize) -> bool
     ensures { result ≡ ends_fit 0 size ends.now }
 {
-    let mut start: usize = 0;
-    let mut i = 0;
-    while i < ends.len() {
-        let end = ends[i] as usize;
-        if end < start {
-            return false;
-        }
-        if size < end {
+    let mut start = 0;
+    for end in ends {
+        let end = *end as usize;
+        if end < start || size < end {
             return false;
         }
         start = end;
-        i += 1;
     }
     true
 }
