@@ -5,6 +5,7 @@ use mathlib.Core.List.{List, [], ◌∷◌}
 use Prim.Native.Nat.{ℕ, zero, suc, ◌<◌, ◌≤◌, Ordering}
 use native.Mathlib.Omega.{arith}
 use lib.ListN.{length, get_or}
+use Rattle.std.specs.Prelude.{All}
 use Rattle.std.specs.declared.cmp.Ordering.{Ordering as KeyOrdering}
 use Rattle.std.specs.declared.cmp.Ordering.TheVariants.{Less, Equal, Greater}
 use Rattle.records.specs.declared.siblings.Gap.{Gap}
@@ -13,7 +14,7 @@ use Rattle.row.specs.Words.{record_count, word}
 use Rattle.records.specs.Records.{key_words_at}
 use Rattle.records.specs.Keys.{InText}
 use Rattle.tags.specs.Tags.{ordering_of}
-use Rattle.records.specs.Siblings.{chain, children, last_of, seek, Within, Ends, ChainEnds, Linked, ForSome, Walking, found, between}
+use Rattle.records.specs.Siblings.{chain, children, last_of, seek, Within, Ends, ChainEnds, Linked, WellFormed, ForSome, Walking, found, between}
 
 pub chain-end : (ws : List ℕ) (f : ℕ) → chain ws f 0 ≡ []
 unfolding chain
@@ -55,15 +56,22 @@ module _ (ws : List ℕ) {cur : ℕ} (e : Ends ws cur) (n : cur ≢ 0) where
         few = omega (arith, longer, e.few);
       }
 
-within_at : (lo hi : ℕ) (ms : List ℕ) → Within lo hi ms → (i : ℕ) → i < length ms → get_or ms i 0 < hi
-within_at lo hi [] h i l = absurd (omega arith)
-within_at lo hi (m ∷ ms) h zero l = h.1
-within_at lo hi (m ∷ ms) h (suc i) l = within_at lo hi ms h.2 i (omega arith)
+within_at : (lo hi : ℕ) (ms : List ℕ) → Within lo hi ms → (i d : ℕ) → i < length ms → get_or ms i d < hi
+within_at lo hi [] h i d l = absurd (omega arith)
+within_at lo hi (m ∷ ms) h zero d l = h.1
+within_at lo hi (m ∷ ms) h (suc i) d l = within_at lo hi ms h.2 i d (omega arith)
+
+-- What is asked of a record whose key is compared holds of each of some siblings.
+pub asked-each : {ws text : List ℕ} {used : ℕ} → WellFormed ws text used → (n : ℕ) (l : List ℕ) → l ≡ chain ws (record_count ws) n
+    → ChainEnds ws used n → All (λ m. (m < record_count ws) × InText text (key_words_at ws m)) l
+asked-each {ws} {text} {used} f n l e c k d i =
+    let inside : get_or l k d < used = rw e (within_at 0 used (chain ws (record_count ws) n) c.within k d (rw e at i)) in
+    (omega (arith, inside, f.links.room), f.keys (get_or l k d) inside)
 
 pub ends-among : (ws : List ℕ) {used n : ℕ} → used ≤ record_count ws → ChainEnds ws used n → Ends ws n
 ends-among ws {used} {n} r e =
     record {
-      inside = λ i l. omega (arith, within_at 0 used (chain ws (record_count ws) n) e.within i l);
+      inside = λ i l. omega (arith, within_at 0 used (chain ws (record_count ws) n) e.within i 0 l);
       few = e.few;
     }
 

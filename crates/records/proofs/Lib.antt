@@ -2,6 +2,7 @@ pub mod Rows
 pub mod Comparing
 pub mod Tagged
 pub mod Chains
+pub mod Lines
 pub mod Forests
 pub mod Contexts
 pub mod Seeking

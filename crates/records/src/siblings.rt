@@ -1,12 +1,14 @@
 // Lists of siblings: a child found by its key, the last child, and a new child put in.
-ghost use Rattle.std.specs.Prelude.{◌≡◌, ◌<◌};
+ghost use Rattle.std.specs.Prelude.{◌≡◌, ◌<◌, ℕ, All};
+ghost use Prim.Native.Nat.{Ordering as NatOrdering};
+ghost use Rattle.tags.specs.Tags.{ordering_of};
 ghost use Rattle.std.specs.Iterator.{YieldsFirst, item_count};
 ghost use Rattle.row.specs.Words.{record_count};
-ghost use Rattle.records.specs.Keys.{sought_key};
+ghost use Rattle.records.specs.Keys.{InText, sought_key};
 ghost use Rattle.records.specs.Siblings.{chain, children, standing, seek, position, last_of};
 ghost use Rattle.records.specs.Siblings.{ChainEnds, Linked, WellFormed, ForSome};
 ghost use Rattle.records.specs.Walks.{left};
-ghost use Rattle.records.specs.Records.{linked, inserted};
+ghost use Rattle.records.specs.Records.{key_words_at, linked, inserted};
 
 pub use crate::line::Siblings;
 use crate::store::Record;
@@ -59,38 +61,30 @@ impl<'a> Iterator for Siblings<'a> {
     }
 }
 
-// The position of a key among the siblings from `first` on, of which `before` is the one before the first.
-fn walk(
-    words: &[u32],
-    text: &[u8],
-    before: u32,
-    first: u32,
-    key: KeyKind,
-    bytes: &[u8],
-    escaped: bool,
-) -> Position
-    requires { ForSome (λ used. WellFormed words.now text.now used × ChainEnds words.now used first) }
-    ensures { result ≡ seek (standing words.now text.now
-        (sought_key key escaped bytes.now))
-        before (chain words.now (record_count words.now) first) }
+// The position of a key among the siblings that are left, of which `prev` is the one before the first: `compare` tells
+// where each stands to the key.
+pub fn place<F: Fn(u32) -> Ordering>(siblings: Siblings, prev: u32, compare: F) -> Position
+    requires { All (F.pre compare) (left siblings) }
+    ensures { (stands : ℕ → NatOrdering) → All (λ m. (o : _) → F.post compare m o → ordering_of o ≡ stands m) (left siblings.entry)
+        → result ≡ seek stands prev (left siblings.entry) }
 {
-    let mut prev = before;
-    let mut cur = first;
-    while cur != 0 {
-        match keys::compare_key(words, text, cur, key, bytes, escaped) {
-            Ordering::Less => {
-                prev = cur;
-                cur = row::get_word(words, cur, row::NEXT);
-            }
-            Ordering::Equal => {
-                return Ok(cur);
-            }
+    let mut before = prev;
+    for sibling in siblings {
+        match compare(sibling) {
+            Ordering::Less => before = sibling,
+            Ordering::Equal => return Ok(sibling),
             Ordering::Greater => {
-                return Err(Gap { prev, next: cur });
+                return Err(Gap {
+                    prev: before,
+                    next: sibling,
+                });
             }
         }
     }
-    Err(Gap { prev, next: 0 })
+    Err(Gap {
+        prev: before,
+        next: 0,
+    })
 }
 
 // The position of a key among the children of a record. Beside a String key stand its bytes, which are to be decoded
@@ -107,8 +101,16 @@ pub fn find(
     ensures { result ≡ position words.now text.now
         (sought_key key escaped bytes.now) parent }
 {
-    let first = row::get_word(words, parent, row::CHILD);
-    walk(words, text, 0, first, key, bytes, escaped)
+    let children = Siblings::children(words, parent);
+    place(
+        children,
+        0,
+        |n| -> Ordering
+            requires { (n < record_count words.now) × InText text.now (key_words_at words.now n) }
+            ensures { ordering_of result ≡ standing words.entry.now text.entry.now
+                (sought_key key escaped bytes.entry.now) n }
+        { keys::compare_key(words, text, n, key, bytes, escaped) },
+    )
 }
 
 // The last of the siblings from `first` on, or `before` where there is none.
@@ -116,13 +118,7 @@ pub fn last_from(words: &[u32], before: u32, first: u32) -> u32
     requires { ForSome (λ used. Linked words.now used × ChainEnds words.now used first) }
     ensures { result ≡ last_of before (chain words.now (record_count words.now) first) }
 {
-    let mut prev = before;
-    let mut cur = first;
-    while cur != 0 {
-        prev = cur;
-        cur = row::get_word(words, cur, row::NEXT);
-    }
-    prev
+    Siblings::starting(words, first).last().unwrap_or(before)
 }
 
 // The last child of a record, or 0.
@@ -130,8 +126,7 @@ pub fn last_child(words: &[u32], parent: u32) -> u32
     requires { ForSome (λ used. Linked words.now used × (parent < used)) }
     ensures { result ≡ last_of 0 (children words.now parent) }
 {
-    let first = row::get_word(words, parent, row::CHILD);
-    last_from(words, 0, first)
+    Siblings::children(words, parent).last().unwrap_or(0)
 }
 
 // Makes record `new` the next sibling of prev, or the first child of parent where prev is 0. Nothing else changes.
