@@ -1,27 +1,42 @@
 // Lent slices made zero: what a reading doesn't use, all of them after a refusal, and that of a list.
-// Below it stand laws.
 #![tactic(auto)]
 
 ghost use Rattle.std.specs.Prelude.{◌≡◌, length, replicate};
 
-// Makes every word zero.
-pub fn clear_words(words: &mut [u32])
-    ensures { words.new ≡ replicate (length words.old) 0 }
-{
-    let mut i = 0;
-    while i < words.len() {
-        words[i] = 0;
-        i += 1;
-    }
+// A type with a zero, of which each copy is the zero again.
+pub trait Zero: Copy {
+    ghost ZERO: { Self };
+
+    const ZERO: Self;
+
+    ghost infallible: { Self.is_infallible ZERO };
+
+    ghost copies: { (x : Self) → Self.is_clone ZERO x → x ≡ ZERO };
 }
 
-// Makes every byte zero.
-pub fn clear_text(text: &mut [u8])
-    ensures { text.new ≡ replicate (length text.old) 0 }
+impl Zero for u8 {
+    ghost ZERO = { 0 };
+
+    const ZERO: u8 = 0;
+
+    ghost infallible = { tt };
+
+    ghost copies = { λ x same. same };
+}
+
+impl Zero for u32 {
+    ghost ZERO = { 0 };
+
+    const ZERO: u32 = 0;
+
+    ghost infallible = { tt };
+
+    ghost copies = { λ x same. same };
+}
+
+// Makes every word or every byte zero.
+pub fn clear<T: Zero>(items: &mut [T])
+    ensures { items.new ≡ replicate (length items.old) T.ZERO }
 {
-    let mut i = 0;
-    while i < text.len() {
-        text[i] = 0;
-        i += 1;
-    }
+    items.fill(T::ZERO);
 }
