@@ -10,67 +10,69 @@ mod values; // the walk over the values
 
 ghost use Rattle.std.specs.Prelude.{cond, ◌≡◌, eqb};
 ghost use mathlib.Core.List.{[], flat_map};
-ghost use Rattle.output.specs.Output.{filled, answer_for, page, Puts};
+ghost use Rattle.output.specs.Output.{filled, answer_for};
+ghost use Rattle.output.specs.Wrote.{Wrote};
 ghost use Rattle.listed.specs.Walking.{listed_within};
 ghost use Rattle.sheet.specs.Line.{line};
 ghost use Rattle.listing.specs.Lines.{own_lines};
 ghost use Rattle.listing.specs.Listing.{answer_lines, bad_head};
 ghost use Rattle.listing.specs.Bounded.{bounded_listing, outcome_from};
 
-use output::{Written, numbers};
+use output::Output;
 use reading::Reading;
-use values::Style;
+use row::Lent;
+use values::{Lines, Sheet, write_values};
 
 // Writes the lines of an answer's four numbers.
-fn write_answer(answer: Reading, out: &mut [u8]) -> usize
-    ensures { Puts (answer_lines answer) (page out.old 0) (page out.new result) }
+fn write_answer(answer: Reading, out: &mut Output)
+    ensures { Wrote (answer_lines answer) out.old out.new }
 {
-    let second = numbers::write_number(b"answer=", answer.number as usize, out, 0);
-    let third = numbers::write_number(b"place=", answer.place as usize, out, second);
-    let fourth = numbers::write_number(b"nodes=", answer.records as usize, out, third);
-    numbers::write_number(b"bytes=", answer.bytes as usize, out, fourth)
+    out.write_number(b"answer=", answer.number as usize);
+    out.write_number(b"place=", answer.place as usize);
+    out.write_number(b"nodes=", answer.records as usize);
+    out.write_number(b"bytes=", answer.bytes as usize);
 }
 
 // Writes the lines of an accepted outcome's values; of a refused one, nothing.
-fn write_accepted(number: u32, words: &[u32], text: &[u8], out: &mut [u8], at: usize) -> usize
-    ensures { Puts
-        (cond (eqb number 0) (flat_map own_lines (listed_within words.now text.now)) [])
-        (page out.old at) (page out.new result) }
+fn write_accepted(number: u32, lent: Lent, out: &mut Output)
+    ensures { Wrote
+        (cond (eqb number 0) (flat_map own_lines (listed_within lent.entry.words.now lent.entry.text.now)) [])
+        out.old out.new }
 {
-    if number != 0 {
-        return at;
+    if number == 0 {
+        write_values::<Lines>(lent, out);
     }
-    values::write_values(Style::Lines, words, text, out, at)
 }
 
 // Writes the listing of an outcome: the answer's four numbers and, if it is accepted, the values that words and text
-// hold. Where the output is too short it holds the listing's first bytes; where it is longer, its further elements stay
-// as they were.
-pub fn list(answer: Reading, words: &[u32], text: &[u8], out: &mut [u8]) -> Written
+// hold. Where the output is too short it holds the listing's first bytes, and none is answered; where it is longer, its
+// further elements stay as they were.
+pub fn list(answer: Reading, words: &[u32], text: &[u8], out: &mut [u8]) -> Option<usize>
     ensures told { result ≡ answer_for
         (bounded_listing (outcome_from answer words.now text.now)) out.old }
     ensures output { out.new ≡ filled
         (bounded_listing (outcome_from answer words.now text.now)) out.old }
 {
-    let at = write_answer(answer, out);
-    let end = write_accepted(answer.number, words, text, out, at);
-    output::answer_at(end, out.len())
+    let mut page = Output::new(out);
+    write_answer(answer, &mut page);
+    write_accepted(answer.number, Lent { words, text }, &mut page);
+    page.whole()
 }
 
 // Writes what the program prints for a bad head, as `list` writes a listing.
-pub fn list_bad_head(out: &mut [u8]) -> Written
+pub fn list_bad_head(out: &mut [u8]) -> Option<usize>
     ensures told { result ≡ answer_for bad_head out.old }
     ensures output { out.new ≡ filled bad_head out.old }
 {
-    let end = output::write_bytes(b"answer=head\n", out, 0);
-    output::answer_at(end, out.len())
+    let mut page = Output::new(out);
+    page.write_bytes(b"answer=head\n");
+    page.whole()
 }
 
 // Writes the lines of the sheet, one for each value that words and text hold, as many as the output has room for. Its
 // further elements stay as they were.
 pub fn write_sheet(words: &[u32], text: &[u8], out: &mut [u8])
-    ensures { out.new ≡ filled
-        (flat_map line (listed_within words.now text.now)) out.old }
+    ensures { out.new ≡ filled (flat_map line (listed_within words.now text.now)) out.old }
 {
-    values::write_values(Style::Sheet, words, text, out, 0);
+    write_values::<Sheet>(Lent { words, text }, &mut Output::new(out));
 }

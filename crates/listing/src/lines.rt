@@ -1,89 +1,83 @@
 // A value's own four lines.
 ghost use Rattle.row.specs.Row.{kind_word};
 ghost use Rattle.row.specs.Words.{word};
-ghost use Rattle.output.specs.Output.{page, Puts};
+ghost use Rattle.output.specs.Wrote.{Wrote};
 ghost use Rattle.listed.specs.Listed.{bytes_of};
 ghost use Rattle.listed.specs.Walking.{key_shown, childless, kind_shown, item_in};
 ghost use Rattle.listing.specs.Lines.{line, key_item, text_item, own_lines};
 
 use listed::Item;
-use output::numbers;
+use output::Output;
+use row::Lent;
 
 // Writes a value's key: `-` for none, `i` and an Int's value, or `s` and a String's bytes.
-fn write_key(words: &[u32], text: &[u8], item: Item, out: &mut [u8], at: usize) -> usize
-    ensures { Puts (key_item (key_shown item.keyed words.now text.now item.n))
-        (page out.old at) (page out.new result) }
+fn write_key(lent: Lent, item: Item, out: &mut Output)
+    ensures { Wrote (key_item (key_shown item.keyed lent.entry.words.now lent.entry.text.now item.n))
+        out.old out.new }
 {
     if !item.keyed {
-        return output::write_byte(b'-', out, at);
+        return out.write_byte(b'-');
     }
-    let kind = row::word_or_zero(words, item.n, row::KEY_KIND);
-    let key = row::word_or_zero(words, item.n, row::KEY);
-    if kind == row::INT_KEY {
-        let int = output::write_byte(b'i', out, at);
-        return numbers::write_decimal(key as usize, out, int);
+    match lent.int_key(item.n) {
+        Some(int) => {
+            out.write_byte(b'i');
+            out.write_decimal(int as usize);
+        }
+        None => {
+            out.write_byte(b's');
+            out.write_hex(lent.key_part(item.n));
+        }
     }
-    let len = row::word_or_zero(words, item.n, row::KEY_LEN);
-    let bytes = output::write_byte(b's', out, at);
-    numbers::write_hex(row::text_part(text, key, len), out, bytes)
 }
 
 // Writes a String's bytes, or `-` for a value of another kind.
-fn write_text(words: &[u32], text: &[u8], n: u32, out: &mut [u8], at: usize) -> usize
-    ensures { Puts (text_item (bytes_of (childless words.now text.now n)))
-        (page out.old at) (page out.new result) }
+fn write_text(lent: Lent, n: u32, out: &mut Output)
+    ensures { Wrote (text_item (bytes_of (childless lent.entry.words.now lent.entry.text.now n)))
+        out.old out.new }
 {
-    let kind = row::word_or_zero(words, n, row::KIND);
-    if kind != row::STRING {
-        return output::write_byte(b'-', out, at);
+    match lent.string(n) {
+        Some(bytes) => out.write_hex(bytes),
+        None => out.write_byte(b'-'),
     }
-    numbers::write_hex(listed::string_part(words, text, n), out, at)
 }
 
 // Writes the line of a value's key.
-fn write_key_line(words: &[u32], text: &[u8], item: Item, out: &mut [u8], at: usize) -> usize
-    ensures { Puts
-        (line "key=" (key_item (key_shown item.keyed words.now text.now item.n)))
-        (page out.old at) (page out.new result) }
+fn write_key_line(lent: Lent, item: Item, out: &mut Output)
+    ensures { Wrote
+        (line "key=" (key_item (key_shown item.keyed lent.entry.words.now lent.entry.text.now item.n)))
+        out.old out.new }
 {
-    let start = output::write_bytes(b"key=", out, at);
-    let end = write_key(words, text, item, out, start);
-    output::write_byte(b'\n', out, end)
+    out.write_bytes(b"key=");
+    write_key(lent, item, out);
+    out.write_byte(b'\n');
 }
 
 // Writes the line of a value's kind.
-fn write_kind_line(words: &[u32], n: u32, out: &mut [u8], at: usize) -> usize
-    ensures { Puts (line "kind=" (kind_shown (word words.now n kind_word)))
-        (page out.old at) (page out.new result) }
+fn write_kind_line(lent: Lent, n: u32, out: &mut Output)
+    ensures { Wrote (line "kind=" (kind_shown (word lent.entry.words.now n kind_word))) out.old out.new }
 {
-    let start = output::write_bytes(b"kind=", out, at);
-    let end = listed::write_kind(row::word_or_zero(words, n, row::KIND), out, start);
-    output::write_byte(b'\n', out, end)
+    out.write_bytes(b"kind=");
+    out.write_bytes(listed::kind_name(lent, n));
+    out.write_byte(b'\n');
 }
 
 // Writes the line of a value's text.
-fn write_text_line(words: &[u32], text: &[u8], n: u32, out: &mut [u8], at: usize) -> usize
-    ensures { Puts (line "text=" (text_item (bytes_of (childless words.now text.now n))))
-        (page out.old at) (page out.new result) }
+fn write_text_line(lent: Lent, n: u32, out: &mut Output)
+    ensures { Wrote
+        (line "text=" (text_item (bytes_of (childless lent.entry.words.now lent.entry.text.now n))))
+        out.old out.new }
 {
-    let start = output::write_bytes(b"text=", out, at);
-    let end = write_text(words, text, n, out, start);
-    output::write_byte(b'\n', out, end)
+    out.write_bytes(b"text=");
+    write_text(lent, n, out);
+    out.write_byte(b'\n');
 }
 
 // Writes a value's own four lines.
-pub(crate) fn write_lines(
-    words: &[u32],
-    text: &[u8],
-    item: Item,
-    out: &mut [u8],
-    at: usize,
-) -> usize
-    ensures { Puts (own_lines (item_in words.now text.now item))
-        (page out.old at) (page out.new result) }
+pub(crate) fn write_lines(lent: Lent, item: Item, out: &mut Output)
+    ensures { Wrote (own_lines (item_in lent.entry.words.now lent.entry.text.now item)) out.old out.new }
 {
-    let key = numbers::write_number(b"level=", item.level, out, at);
-    let kind = write_key_line(words, text, item, out, key);
-    let bytes = write_kind_line(words, item.n, out, kind);
-    write_text_line(words, text, item.n, out, bytes)
+    out.write_number(b"level=", item.level);
+    write_key_line(lent, item, out);
+    write_kind_line(lent, item.n, out);
+    write_text_line(lent, item.n, out);
 }

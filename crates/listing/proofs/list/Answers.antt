@@ -1,17 +1,16 @@
 -- The answer's lines and then the values' are the listing, which fills the output; its end tells whether it fits.
 use mathlib.Core.Path.{◌∙◌}
-use native.Mathlib.Omega.{arith}
-use lib.ListN.{length}
+use Rattle.std.proofs.Common.{rules}
 use Rattle.listing.specs.Bounded.{bounded_listing}
-use Rattle.output.proofs.Pages.{puts_then}
-use Rattle.output.proofs.Filled.{all-filled, answered}
+use Rattle.output.proofs.Wrote.{wrote_then}
+use Rattle.output.proofs.Filled.{filled_by, answered_by}
 use Rattle.listing.proofs.list.Goals as goal
 
 pub returns : goal.returns
 unfolding bounded_listing
 returns c =
-    let p = puts_then c.write_answer-at.ensures c.write_accepted-end.ensures in record {
-      told = c.answer_at.ensures ∙ answered _ _ _ _ p (length c.write_accepted-end.new.out)
-          (omega (arith, c.write_accepted-end.auto.out, c.write_answer-at.auto.out));
-      output = all-filled _ _ _ _ p;
+    let w = wrote_then c.write_answer.ensures c.write_accepted.ensures in
+    record {
+      told = c.whole.ensures ∙ answered_by c.new-page.ensures.start w;
+      output = filled_by c.new-page.ensures.start w (search rules);
     }

@@ -1,13 +1,12 @@
--- One text from place 0 on fills the output as that text does, and its end tells whether it fits.
+-- One text from the start on fills the output as that text does, and its end tells whether it fits.
 use mathlib.Core.Path.{◌∙◌}
-use borrow.Author.Rules.{rules}
-use lib.ListN.{length}
-use Rattle.output.proofs.Filled.{all-filled, answered}
+use Rattle.std.proofs.Common.{rules}
+use Rattle.output.proofs.Filled.{filled_by, answered_by}
 use Rattle.listing.proofs.list_bad_head.Goals as goal
 
 pub returns : goal.returns
 returns c =
-    let p = c.write_bytes-end.ensures in record {
-      told = c.answer_at.ensures ∙ answered _ _ _ _ p (length c.write_bytes-end.new.out) (search rules);
-      output = all-filled _ _ _ _ p;
+    record {
+      told = c.whole.ensures ∙ answered_by c.new-page.ensures.start c.write_bytes.ensures;
+      output = filled_by c.new-page.ensures.start c.write_bytes.ensures (search rules);
     }

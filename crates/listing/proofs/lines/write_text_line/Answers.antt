@@ -1,7 +1,5 @@
--- Name, text and newline are written one behind the other, which is the line.
-use Rattle.output.proofs.Pages.{puts_then}
+use Rattle.output.proofs.Wrote.{wrote_then}
 use Rattle.listing.proofs.lines.write_text_line.Goals as goal
 
 pub returns : goal.returns
-returns c =
-    puts_then (puts_then c.write_bytes-start.ensures c.write_text-end.ensures) c.write_byte.ensures
+returns c = wrote_then (wrote_then c.write_bytes.ensures c.write_text.ensures) c.write_byte.ensures
