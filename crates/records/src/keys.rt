@@ -13,7 +13,7 @@ ghost use Rattle.tags.specs.Tags.{ordering_of, tag_of, Sought};
 ghost use Rattle.records.specs.Keys.{key_at, told_key, InText, sought_key};
 ghost use Rattle.records.specs.Records.{key_words_at};
 
-use crate::escaped::Decoding;
+use decode::Decoder;
 use key::KeyKind;
 use std::cmp::Ordering;
 
@@ -62,7 +62,7 @@ fn key_of<'a>(words: &[u32], text: &'a [u8], n: u32) -> Stored<'a>
 fn compare_escaped(bytes: &[u8], raw: &[u8]) -> Ordering
     ensures { ordering_of result ≡ compare_bytes bytes.now (decoded raw.now) }
 {
-    bytes.iter().copied().cmp(Decoding::of(raw))
+    bytes.iter().copied().cmp(Decoder::new(raw))
 }
 
 // Where the key of record n stands to the one that is looked for: a String's bytes, which are to be decoded on the way

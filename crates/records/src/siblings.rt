@@ -1,5 +1,5 @@
 // Lists of siblings: a child found by its key, the last child, and a new child put in.
-ghost use Rattle.std.specs.Prelude.{◌≡◌, ◌<◌, ℕ, All};
+ghost use Rattle.std.specs.Prelude.{◌≡◌, ◌<◌, ◌≤◌, ℕ, All, IfSome, IsSome, length};
 ghost use Prim.Native.Nat.{Ordering as NatOrdering};
 ghost use Rattle.tags.specs.Tags.{ordering_of};
 ghost use Rattle.std.specs.Iterator.{YieldsFirst, item_count};
@@ -61,30 +61,55 @@ impl<'a> Iterator for Siblings<'a> {
     }
 }
 
-// The position of a key among the siblings that are left, of which `prev` is the one before the first: `compare` tells
-// where each stands to the key.
-pub fn place<F: Fn(u32) -> Ordering>(siblings: Siblings, prev: u32, compare: F) -> Position
+// The position of a key among the siblings that are left, of which `prev` is the one before the first, if it is among
+// the first `most`: `compare` tells where each stands to the key.
+pub fn place_within<F: Fn(u32) -> Ordering>(
+    siblings: Siblings,
+    most: usize,
+    prev: u32,
+    compare: F,
+) -> Option<Position>
     requires { All (F.pre compare) (left siblings) }
-    ensures { (stands : ℕ → NatOrdering) → All (λ m. (o : _) → F.post compare m o → ordering_of o ≡ stands m) (left siblings.entry)
-        → result ≡ seek stands prev (left siblings.entry) }
+    ensures place { (stands : ℕ → NatOrdering)
+        → All (λ m. (o : _) → F.post compare m o → ordering_of o ≡ stands m) (left siblings.entry)
+        → IfSome result (λ p. p ≡ seek stands prev (left siblings.entry)) }
+    ensures few { length (left siblings.entry) ≤ most → IsSome result }
 {
+    let mut more = most;
     let mut before = prev;
     for sibling in siblings {
+        if more == 0 {
+            return None;
+        }
+        more -= 1;
         match compare(sibling) {
             Ordering::Less => before = sibling,
-            Ordering::Equal => return Ok(sibling),
+            Ordering::Equal => return Some(Ok(sibling)),
             Ordering::Greater => {
-                return Err(Gap {
+                return Some(Err(Gap {
                     prev: before,
                     next: sibling,
-                });
+                }));
             }
         }
     }
-    Err(Gap {
+    Some(Err(Gap {
         prev: before,
         next: 0,
-    })
+    }))
+}
+
+// The same among all of them. No list is longer than a usize counts.
+pub fn place<F: Fn(u32) -> Ordering>(siblings: Siblings, prev: u32, compare: F) -> Position
+    requires { All (F.pre compare) (left siblings) }
+    ensures { (stands : ℕ → NatOrdering)
+        → All (λ m. (o : _) → F.post compare m o → ordering_of o ≡ stands m) (left siblings.entry)
+        → result ≡ seek stands prev (left siblings.entry) }
+{
+    match place_within(siblings, usize::MAX, prev, compare) {
+        Some(position) => position,
+        None => unreachable!(),
+    }
 }
 
 // The position of a key among the children of a record. Beside a String key stand its bytes, which are to be decoded
