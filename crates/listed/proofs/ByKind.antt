@@ -40,9 +40,13 @@ name-is e = sym (ap kind_shown e)
 pub name_past : (k : ℕ) → no_value_kind < k → ascii "uninit" ≡ kind_shown k
 name_past k h =
     let other : (j : ℕ) → j ≤ no_value_kind → k ≡ j → ⊥ = λ j f e. omega arith in
-    rw (ne_eqb k map_kind (other map_kind (omega arith)), ne_eqb k sequence_kind (other sequence_kind (omega arith)),
-      ne_eqb k string_kind (other string_kind (omega arith)), ne_eqb k null_kind (other null_kind (omega arith)),
-      ne_eqb k no_value_kind (other no_value_kind (omega arith)))
+    rw (
+      ne_eqb k map_kind (other map_kind (omega arith)),
+      ne_eqb k sequence_kind (other sequence_kind (omega arith)),
+      ne_eqb k string_kind (other string_kind (omega arith)),
+      ne_eqb k null_kind (other null_kind (omega arith)),
+      ne_eqb k no_value_kind (other no_value_kind (omega arith)),
+    )
 
 -- A value of another kind than String has no bytes.
 pub no_bytes : (k : ℕ) (s : Value) → (k ≡ string_kind → ⊥) → bytes_of (plain (by_kind k s none)) ≡ Option.none
