@@ -1,4 +1,5 @@
 -- A key that is scanned: it is entered, and its value is added or the next level opens; and the loop over levels.
+use Rattle.std.specs.Prelude.{Result, Ok, Err}
 use Prim.Native.Nat.{ℕ, zero, suc, ◌+◌, ◌≤◌, ◌<◌}
 use mathlib.Core.Path.{◌≡◌, refl, sym, ap, ◌∙◌, subst}
 use mathlib.Core.Bool.{Bool, true, false, cond}
@@ -33,8 +34,6 @@ use Rattle.cursor.proofs.Segments.{length-segment}
 use Rattle.cursor.proofs.Scans.{scan_bounds}
 use Rattle.records.specs.Keys.{meant_key}
 use Rattle.tree.specs.declared.Here.{Here}
-use Rattle.tree.specs.declared.Performed.{Performed}
-use Rattle.tree.specs.declared.Performed.TheVariants.{Made as MadeHere, Refused as RefusedThere}
 use Rattle.tree.specs.Stored.{StoredAt, SomeStoredAt, used_by}
 use Rattle.tree.specs.Needing.{sequence_answer}
 use Rattle.tree.specs.Commands.{After, stood, Performs, appends, enters, further, needs_sequence, stays, Countable, AddsAtMost}
@@ -42,16 +41,13 @@ use Rattle.tree.proofs.StoredTrees.{at-root}
 use Rattle.tree.proofs.Composed.{insert_composed, push_composed}
 use Rattle.tree.proofs.Chained.{then_standing, stops as first_stops, goes_on}
 use Rattle.tree.proofs.Bounds.{made_modest}
-use Rattle.pairs.specs.declared.turning.Turn.{Turn}
-use Rattle.pairs.specs.declared.turning.Turn.TheVariants.{Refused}
+use Rattle.pairs.specs.declared.turning.Stopped.{Stopped}
 use Rattle.pairs.specs.declared.turning.ScannedKey.{ScannedKey}
-use Rattle.pairs.specs.declared.turning.Level.{Level}
-use Rattle.pairs.specs.declared.turning.Level.TheVariants.{Deeper, Turned}
 use Rattle.pairs.specs.declared.nested.PairValue.{PairValue}
 use Rattle.pairs.specs.Progress.{still, Start, moment, Reads, SomeReads, Performable}
-use Rattle.pairs.specs.Turns.{turn_of, target_at, target, reach, reached, behind_key, due, Behind, ValueBehind, taken, absent}
-use Rattle.pairs.specs.Turns.{scanned_at, bracket_at, opened, LevelEnds, ReadsPair, ReadsLevel}
-use Rattle.pairs.proofs.Moves.{Move, move_on, pair-on, level-on, as_level, due_as, took_move, value-scan, ends-step}
+use Rattle.pairs.specs.Turns.{target_at, target, reach, reached, behind_key, due, Behind, ValueBehind, taken, absent}
+use Rattle.pairs.specs.Turns.{scanned_at, bracket_at, opened, KeyEnds, ReadsPair, ReadsKey}
+use Rattle.pairs.proofs.Moves.{Move, move_on, pair-on, due_as, took_move, value-scan, ends-step}
 use Rattle.pairs.proofs.Performing.{made_move, refused-pair, performed_pair}
 
 -- Adding to a target is reaching it, and adding there.
@@ -143,20 +139,33 @@ module _ {config : Config} {s : List ℕ} {scanned : ScannedKey} (b : Behind s s
       go (absent e l p f i) = p
 
   -- What follows once the key is entered.
-  module _ {W X W1 X1 : List ℕ} {r1 : Performed}
+  module _ {W X W1 X1 : List ℕ} {r1 : Result Here Refusal}
       (d : Performs W X W1 X1 scanned.here (λ env path. perform env (reach (target s scanned path))) (λ path. reached (target s scanned path)) r1) where
-    -- The value is added, and the pair is done.
-    pub scanned_added : same_symbol scanned.taken.symbol Opening ≡ false → {there : Here} → r1 ≡ MadeHere there → {W2 X2 : List ℕ} {r2 : Performed}
-        → Performs W1 X1 W2 X2 there (appends leaf) stays r2 → {turn : Turn} → turn ≡ turn_of r2 found.place
-        → ReadsLevel config s (scanned_at W X scanned) W2 X2 (due s scanned) scanned.taken.cursor.place (Turned turn)
-    scanned_added o e d2 q =
-        level-on (value_move o) value_on
-        (as_level (performed_pair (λ path. add (target s scanned path) leaf) (λ path. reached (target s scanned path))
-        (goes_on (λ env path. perform env (reach (target s scanned path))) (λ path. reached (target s scanned path)) d (appends leaf)
-        (λ env path. perform env (add (target s scanned path) leaf)) (λ env path. add_composed (target s scanned path) leaf env) e d2) q))
+    -- The value is added, and the pair is done, or it is refused.
+    module _ (o : same_symbol scanned.taken.symbol Opening ≡ false) {there : Here} (e : r1 ≡ Ok there) {W2 X2 : List ℕ} {r2 : Result Here Refusal}
+        (d2 : Performs W1 X1 W2 X2 there (appends leaf) stays r2) where
+      adds : Performs W X W2 X2 scanned.here (λ env path. perform env (add (target s scanned path) leaf)) (λ path. reached (target s scanned path)) r2
+      adds =
+          goes_on (λ env path. perform env (reach (target s scanned path))) (λ path. reached (target s scanned path)) d (appends leaf)
+          (λ env path. perform env (add (target s scanned path) leaf)) (λ env path. add_composed (target s scanned path) leaf env) e d2
+
+      pub scanned_added : {after : Here} → r2 ≡ Ok after
+          → ReadsPair config s (scanned_at W X scanned) W2 X2 (due s scanned) scanned.taken.cursor.place
+          (Ok (record { index = found.place; here = after }))
+      scanned_added q =
+          pair-on (value_move o) value_on
+          (performed_pair (λ path. add (target s scanned path) leaf) (λ path. reached (target s scanned path)) adds q)
+
+      pub scanned_unadded : {x : Refusal} → r2 ≡ Err x
+          → ReadsPair config s (scanned_at W X scanned) W2 X2 (due s scanned) scanned.taken.cursor.place
+          (Err (record { refusal = x; index = found.place }))
+      scanned_unadded q =
+          pair-on (value_move o) value_on
+          (refused-pair (λ path. add (target s scanned path) leaf) (λ path. reached (target s scanned path)) adds {low = found.place} q
+          (λ path. root_key []))
 
     -- A `[` opens the next level.
-    pub scanned_opened : same_symbol scanned.taken.symbol Opening ≡ true → {there : Here} → r1 ≡ MadeHere there
+    pub scanned_opened : same_symbol scanned.taken.symbol Opening ≡ true → {there : Here} → r1 ≡ Ok there
         → Move config s (scanned_at W X scanned) (due s scanned)
         (bracket_at W1 X1 (record { here = there; level = scanned.level; cursor = scanned.taken.cursor }))
         (still (opened s (record { here = there; level = scanned.level; cursor = scanned.taken.cursor })))
@@ -168,31 +177,31 @@ module _ {config : Config} {s : List ℕ} {scanned : ScannedKey} (b : Behind s s
         (λ path. bracket (reached (target s scanned path)) scanned.level raw) (λ path. bracket path scanned.level raw) (λ path. refl))
 
     -- The key is refused.
-    pub scanned_refused : {x : Refusal} → r1 ≡ RefusedThere x → {W2 X2 : List ℕ}
-        → ReadsLevel config s (scanned_at W X scanned) W2 X2 (due s scanned) scanned.taken.cursor.place (Turned (Refused x found.place))
+    pub scanned_refused : {x : Refusal} → r1 ≡ Err x → {W2 X2 : List ℕ}
+        → ReadsPair config s (scanned_at W X scanned) W2 X2 (due s scanned) scanned.taken.cursor.place (Err (record { refusal = x; index = found.place }))
     scanned_refused {x} e {W2} {X2} = go (same_symbol scanned.taken.symbol Opening) refl
       where
         go : (o : Bool) → same_symbol scanned.taken.symbol Opening ≡ o
-            → ReadsLevel config s (scanned_at W X scanned) W2 X2 (due s scanned) scanned.taken.cursor.place (Turned (Refused x found.place))
+            → ReadsPair config s (scanned_at W X scanned) W2 X2 (due s scanned) scanned.taken.cursor.place (Err (record { refusal = x; index = found.place }))
         go true o =
             let raw = segment s scanned.taken.cursor.end scanned.taken.cursor.place in
-            subst (λ (j : ℕ). ReadsLevel config s (scanned_at W X scanned) W2 X2 (due s scanned) scanned.taken.cursor.place (Turned (Refused x j)))
+            subst (λ (j : ℕ). ReadsPair config s (scanned_at W X scanned) W2 X2 (due s scanned) scanned.taken.cursor.place (Err (record { refusal = x; index = j })))
             (sym (value_none o))
-            (level-on (due_as (λ path. reach (target s scanned path) then bracket (reached (target s scanned path)) scanned.level raw)
+            (pair-on (due_as (λ path. reach (target s scanned path) then bracket (reached (target s scanned path)) scanned.level raw)
             (λ path. ap (λ (y : Symbol). behind_key (target s scanned path) scanned.level (yielded y) raw) (same-symbol scanned.taken.symbol Opening o)))
             (omega arith)
-            (as_level (refused-pair (λ path. reach (target s scanned path)) (λ path. reached (target s scanned path)) d {low = scanned.taken.cursor.place} e
-            (λ path. bracket (reached (target s scanned path)) scanned.level raw))))
+            (refused-pair (λ path. reach (target s scanned path)) (λ path. reached (target s scanned path)) d {low = scanned.taken.cursor.place} e
+            (λ path. bracket (reached (target s scanned path)) scanned.level raw)))
         go false o =
-            level-on (value_move o) value_on
-            (as_level (refused-pair (λ path. add (target s scanned path) leaf) (λ path. reached (target s scanned path))
+            pair-on (value_move o) value_on
+            (refused-pair (λ path. add (target s scanned path) leaf) (λ path. reached (target s scanned path))
             (first_stops (λ env path. perform env (reach (target s scanned path))) (λ path. reached (target s scanned path)) d
             (λ env path. appends leaf env (reached (target s scanned path))) (λ env path. perform env (add (target s scanned path) leaf))
             (λ env path. add_composed (target s scanned path) leaf env) (λ path. reached (target s scanned path)) {ws' = W1} {text' = X1} e)
-            {low = found.place} refl (λ path. root_key [])))
+            {low = found.place} refl (λ path. root_key []))
 
     -- What adding asks: a tree stands there, and the counts stay small.
-    pub scanned_standing : Performable s W X scanned.here → AddsAtMost scanned.here (length s) r1 → {there : Here} → r1 ≡ MadeHere there
+    pub scanned_standing : Performable s W X scanned.here → AddsAtMost scanned.here (length s) r1 → {there : Here} → r1 ≡ Ok there
         → SomeStoredAt W1 X1 there × Countable there 2 (length s)
     scanned_standing q m e =
         let k = made_modest scanned.here (length s) m e in (
@@ -213,7 +222,7 @@ module _ (s : List ℕ) (scanned : ScannedKey) where
 
   -- A key: the tree's `enter`.
 
-  pub keyed-does : {W X W1 X1 : List ℕ} {r : Performed} → (scanned.key ≡ None → ⊥)
+  pub keyed-does : {W X W1 X1 : List ℕ} {r : Result Here Refusal} → (scanned.key ≡ None → ⊥)
       → Performs W X W1 X1 scanned.here (enters (meant_key scanned.key raw)) (further (meant_key scanned.key raw)) r
       → Performs W X W1 X1 scanned.here (λ env path. perform env (reach (target s scanned path))) (λ path. reached (target s scanned path)) r
   keyed-does {W} {X} {W1} {X1} {r} n d env path tree laid st =
@@ -223,9 +232,9 @@ module _ (s : List ℕ) (scanned : ScannedKey) where
   -- No key: the root itself, or the sequence.
   pub rooted-does : {W X : List ℕ} → scanned.key ≡ None → scanned.level ≡ 0 → scanned.here.node ≡ 0
       → Performs W X W X scanned.here (λ env path. perform env (reach (target s scanned path))) (λ path. reached (target s scanned path))
-      (MadeHere scanned.here)
+      (Ok scanned.here)
   rooted-does {W} {X} n l z env path tree laid st =
-      subst (λ (t : Target). After env W X (reached t) (MadeHere scanned.here) (perform env (reach t) tree (used_by scanned.here laid)))
+      subst (λ (t : Target). After env W X (reached t) (Ok scanned.here) (perform env (reach t) tree (used_by scanned.here laid)))
       (sym (ap (λ (k : KeyKind). target_at k scanned.level raw path) n ∙ ap (λ (m : ℕ). target_at None m raw path) l))
       (stood refl
       (subst
@@ -233,7 +242,7 @@ module _ (s : List ℕ) (scanned : ScannedKey) where
       StoredAt env W X (record { records = scanned.here.records; bytes = scanned.here.bytes; node = m; aids = scanned.here.aids }) [] tree laid)
       (sym z) (at-root st)))
 
-  pub served_does : {W X W1 : List ℕ} {r : Performed} → scanned.key ≡ None → (scanned.level ≡ 0 → ⊥)
+  pub served_does : {W X W1 : List ℕ} {r : Result Here Refusal} → scanned.key ≡ None → (scanned.level ≡ 0 → ⊥)
       → Performs W X W1 X scanned.here needs_sequence stays r
       → Performs W X W1 X scanned.here (λ env path. perform env (reach (target s scanned path))) (λ path. reached (target s scanned path)) r
   served_does {W} {X} {W1} {r} n l d env path tree laid st =
@@ -251,17 +260,17 @@ segment-counts h s a b l w c = (c.0, omega (arith, c.1, length-segment s a b l w
 pub performable_counts : {s W X : List ℕ} {h : Here} → Performable s W X h → Countable h 2 (length s)
 performable_counts q = (omega (arith, q.records), omega (arith, q.bytes))
 
-pub segment_modest : (h : Here) (s : List ℕ) (a b : ℕ) (r : Performed)
+pub segment_modest : (h : Here) (s : List ℕ) (a b : ℕ) (r : Result Here Refusal)
     → a ≤ b → b ≤ length s → AddsAtMost h (length (segment s a b)) r → AddsAtMost h (length s) r
-segment_modest h s a b (MadeHere there) l w m = (m.0, omega (arith, m.1, length-segment s a b l w))
-segment_modest h s a b (RefusedThere x) l w m = tt
+segment_modest h s a b (Ok there) l w m = (m.0, omega (arith, m.1, length-segment s a b l w))
+segment_modest h s a b (Err x) l w m = tt
 
-pub needed_modest : (h : Here) (k : ℕ) (words : List ℕ) {r : Performed} → r ≡ sequence_answer h (word words h.node kind_word) → AddsAtMost h k r
+pub needed_modest : (h : Here) (k : ℕ) (words : List ℕ) {r : Result Here Refusal} → r ≡ sequence_answer h (word words h.node kind_word) → AddsAtMost h k r
 needed_modest h k words e =
     let kind = word words h.node kind_word in
-    subst (λ (z : Performed). AddsAtMost h k z) (sym e) (go (eqb kind uninitialized_kind) (eqb kind sequence_kind) (eqb kind map_kind))
+    subst (λ (z : Result Here Refusal). AddsAtMost h k z) (sym e) (go (eqb kind uninitialized_kind) (eqb kind sequence_kind) (eqb kind map_kind))
   where
-    go : (a b c : Bool) → AddsAtMost h k (cond a (MadeHere h) (cond b (MadeHere h) (cond c (RefusedThere SequenceOnMap) (RefusedThere SequenceOnSingle))))
+    go : (a b c : Bool) → AddsAtMost h k (cond a (Ok h) (cond b (Ok h) (cond c (Err SequenceOnMap) (Err SequenceOnSingle))))
     go true b c = (omega arith, omega arith)
     go false true c = (omega arith, omega arith)
     go false false true = tt
@@ -291,13 +300,13 @@ nesting_start first r b =
     record { move = record { moves = λ o a y. y }; some-reads = r; behind = b; on = omega arith; words = refl; text = refl }
 
 module _ {config : Config} {s W₀ X₀ : List ℕ} {first : ScannedKey} {W X : List ℕ} {scanned : ScannedKey} (v : Nesting config s W₀ X₀ first W X scanned)
-    {W' X' : List ℕ} {r : Level} (t : ReadsLevel config s (scanned_at W X scanned) W' X' (due s scanned) scanned.taken.cursor.place r) where
-  module _ {next : ScannedKey} (e : r ≡ Deeper next) where
+    {W' X' : List ℕ} {r : Result ScannedKey Stopped} (t : ReadsKey config s (scanned_at W X scanned) W' X' (due s scanned) scanned.taken.cursor.place r) where
+  module _ {next : ScannedKey} (e : r ≡ Ok next) where
     deeper : (o : Start) (a : Answer) → Reads config s o (scanned_at W X scanned) (due s scanned) a
-        → LevelEnds config s o W' X' scanned.taken.cursor.place a (Deeper next)
-    deeper o a y = subst (λ (z : Level). LevelEnds config s o W' X' scanned.taken.cursor.place a z) e (t.level o a y)
+        → KeyEnds config s o W' X' scanned.taken.cursor.place a (Ok next)
+    deeper o a y = subst (λ (z : Result ScannedKey Stopped). KeyEnds config s o W' X' scanned.taken.cursor.place a z) e (t.key o a y)
 
-    ended : LevelEnds config s v.some-reads.start W' X' scanned.taken.cursor.place v.some-reads.answer (Deeper next)
+    ended : KeyEnds config s v.some-reads.start W' X' scanned.taken.cursor.place v.some-reads.answer (Ok next)
     ended = deeper v.some-reads.start v.some-reads.answer v.some-reads.reads
 
     pub nesting_less : (scanned.taken.cursor.place < next.taken.cursor.place) × (next.taken.cursor.place ≤ length s + 1)
@@ -314,8 +323,8 @@ module _ {config : Config} {s W₀ X₀ : List ℕ} {first : ScannedKey} {W X : 
           text = q ∙ v.text;
         }
 
-  pub nesting_done : {turn : Turn} → r ≡ Turned turn
-      → ReadsPair config s (scanned_at W₀ X₀ first) W' X' (due s first) first.taken.cursor.place turn
-  nesting_done {turn} e =
+  pub nesting_stopped : {stopped : Stopped} → r ≡ Err stopped
+      → ReadsPair config s (scanned_at W₀ X₀ first) W' X' (due s first) first.taken.cursor.place (Err stopped)
+  nesting_stopped e =
       pair-on v.move v.on
-      (record { pair = λ o a y. subst (λ (z : Level). LevelEnds config s o W' X' scanned.taken.cursor.place a z) e (t.level o a y) })
+      (record { pair = λ o a y. subst (λ (z : Result ScannedKey Stopped). KeyEnds config s o W' X' scanned.taken.cursor.place a z) e (t.key o a y) })

@@ -1,4 +1,5 @@
 -- Inside brackets: one level, and keys below the depth and at it.
+use Rattle.std.specs.Prelude.{Result, Ok, Err}
 use Prim.Native.Nat.{ℕ, ◌+◌, ◌-◌, ◌≤◌, ◌<◌}
 use mathlib.Core.Path.{◌≡◌, refl, sym, ap, ◌∙◌, subst}
 use mathlib.Core.Bool.{Bool, true, false, cond}
@@ -32,17 +33,13 @@ use Rattle.cursor.proofs.Segments.{segment_join, length-segment}
 use Rattle.cursor.proofs.Takings.{next_bounds, took-inside, same-symbol}
 use Rattle.cursor.proofs.Scans.{scan_bounds}
 use Rattle.tree.specs.declared.Here.{Here}
-use Rattle.tree.specs.declared.Performed.{Performed}
-use Rattle.tree.specs.declared.Performed.TheVariants.{Made as MadeHere, Refused as RefusedThere}
 use Rattle.tree.specs.Commands.{Performs, stays}
-use Rattle.pairs.specs.declared.turning.Turn.TheVariants.{Refused}
+use Rattle.pairs.specs.declared.turning.Stopped.{Stopped}
 use Rattle.pairs.specs.declared.turning.Bracket.{Bracket}
 use Rattle.pairs.specs.declared.turning.ScannedKey.{ScannedKey}
-use Rattle.pairs.specs.declared.turning.Level.{Level}
-use Rattle.pairs.specs.declared.turning.Level.TheVariants.{Deeper, Turned}
 use Rattle.pairs.specs.Progress.{still, step_by, Moment, moment}
-use Rattle.pairs.specs.Turns.{target, behind_key, due, Behind, scanned_at, bracket_at, opened, in_key_below, in_key_at, in_key, Inside, ReadsLevel}
-use Rattle.pairs.proofs.Moves.{Move, move_on, level-on, as_level, due_as, took_move, next_move, below-scan, at-scan}
+use Rattle.pairs.specs.Turns.{target, behind_key, due, Behind, scanned_at, bracket_at, opened, in_key_below, in_key_at, in_key, Inside, ReadsKey}
+use Rattle.pairs.proofs.Moves.{Move, move_on, key-on, as_key, due_as, took_move, next_move, below-scan, at-scan}
 use Rattle.pairs.proofs.Performing.{made_move, refused-pair, refuse-pair}
 use Rattle.pairs.proofs.Targets.{target-keyed, none_empty, target-last, key-follows, key-refuses, brackets_follow, brackets_refuse}
 use Rattle.pairs.proofs.Targets.{brackets_opening, at_depth_follows, at_depth_stops}
@@ -50,8 +47,8 @@ use Rattle.pairs.proofs.Targets.{brackets_opening, at_depth_follows, at_depth_st
 -- The next key is scanned.
 pub deeper : {config : Config} {s W X : List ℕ} {m : Moment} {now : List Key → Step} {low : ℕ} {scanned : ScannedKey}
     → Move config s m now (scanned_at W X scanned) (due s scanned) → low < scanned.taken.cursor.place → Behind s scanned
-    → ReadsLevel config s m W X now low (Deeper scanned)
-deeper move l b = record { level = λ o a y. (move.moves o a y, l, b) }
+    → ReadsKey config s m W X now low (Ok scanned)
+deeper move l b = record { key = λ o a y. (move.moves o a y, l, b) }
 
 -- What is due, told by the target.
 due-at : (s : List ℕ) (scanned : ScannedKey) (path : List Key) {t : Target} → target s scanned path ≡ t
@@ -84,8 +81,8 @@ module _ {config : Config} {s : List ℕ} (at : Bracket) {cursor : Cursor} {take
   long = length-segment s at.cursor.start at.cursor.end (omega arith) (omega (arith, v.0))
 
   pub key_deeper : ends ≡ true → {key : KeyKind} → key_in key x ≡ collected config x → (W X : List ℕ)
-      → ReadsLevel config s (bracket_at W X at) W X (still (λ path. after_key path at.level (key_of config x))) at.cursor.place
-      (Deeper (record { here = at.here; level = at.level + 1; key = key; segment = at.cursor; taken = taken }))
+      → ReadsKey config s (bracket_at W X at) W X (still (λ path. after_key path at.level (key_of config x))) at.cursor.place
+      (Ok (record { here = at.here; level = at.level + 1; key = key; segment = at.cursor; taken = taken }))
   key_deeper t {key} k W X =
       deeper
       (move_on (next_move n e refl (λ path. after_key path at.level (key_of config x)))
@@ -110,33 +107,33 @@ module _ {config : Config} {s : List ℕ} (at : Bracket) {cursor : Cursor} {take
       scanned = record { here = at.here; level = at.level + 1; key = key; segment = at.cursor; taken = taken }
 
   pub key-refused : ends ≡ false → (W X : List ℕ)
-      → ReadsLevel config s (bracket_at W X at) W X (still (λ path. after_key path at.level (key_of config x))) at.cursor.place
-      (Turned (Refused ByteAfterKey taken.cursor.place))
+      → ReadsKey config s (bracket_at W X at) W X (still (λ path. after_key path at.level (key_of config x))) at.cursor.place
+      (Err (record { refusal = ByteAfterKey; index = taken.cursor.place }))
   key-refused t W X =
-      level-on
+      key-on
       (move_on (next_move n e refl (λ path. after_key path at.level (key_of config x)))
       (due_as (λ path. Command.refuse ByteAfterKey then root_key []) (λ path.
       key-refuses config path at.level (key_of config x) (segment s at.cursor.place taken.cursor.place) (yielded taken.symbol) (sym f ∙ t))))
-      (omega (arith, taking_on n e)) (as_level (refuse-pair ByteAfterKey {low = taken.cursor.place}))
+      (omega (arith, taking_on n e)) (as_key (refuse-pair ByteAfterKey {low = taken.cursor.place}))
 
 -- After `[]`.
 module _ {config : Config} {s : List ℕ} (at : Bracket) {cursor : Cursor} {taken : Taken} (n : Next config s cursor taken)
     (e : (cursor.place ≡ at.cursor.place) × (cursor.start ≡ at.cursor.place) × (cursor.end ≡ at.cursor.place)) (v : Inside s at) where
   -- A `[` is refused.
   pub brackets_opened : {is : Bool} → is ≡ same_symbol taken.symbol Opening → is ≡ true → (W X : List ℕ)
-      → ReadsLevel config s (bracket_at W X at) W X (still (λ path. after_brackets path)) at.cursor.place
-      (Turned (Refused OpeningAfterBrackets taken.cursor.place))
+      → ReadsKey config s (bracket_at W X at) W X (still (λ path. after_brackets path)) at.cursor.place
+      (Err (record { refusal = OpeningAfterBrackets; index = taken.cursor.place }))
   brackets_opened f t W X =
-      level-on
+      key-on
       (move_on (next_move n e.0 refl (λ path. after_brackets path))
       (due_as (λ path. Command.refuse OpeningAfterBrackets then root_key []) (λ path.
       brackets_opening config path (segment s at.cursor.place taken.cursor.place) taken.symbol (same-symbol taken.symbol Opening (sym f ∙ t)))))
-      (omega (arith, taking_on n e.0)) (as_level (refuse-pair OpeningAfterBrackets {low = taken.cursor.place}))
+      (omega (arith, taking_on n e.0)) (as_key (refuse-pair OpeningAfterBrackets {low = taken.cursor.place}))
 
   module _ {is ends : Bool} (f : is ≡ same_symbol taken.symbol Opening) (t : is ≡ false) (g : ends ≡ stops (RootKey true) (yielded taken.symbol)) where
     pub brackets_deeper : ends ≡ true → (W X : List ℕ)
-        → ReadsLevel config s (bracket_at W X at) W X (still (λ path. after_brackets path)) at.cursor.place
-        (Deeper (record { here = at.here; level = at.level + 1; key = None; segment = cursor; taken = taken }))
+        → ReadsKey config s (bracket_at W X at) W X (still (λ path. after_brackets path)) at.cursor.place
+        (Ok (record { here = at.here; level = at.level + 1; key = None; segment = cursor; taken = taken }))
     brackets_deeper u W X =
         deeper
         (move_on (next_move n e.0 refl (λ path. after_brackets path))
@@ -161,14 +158,14 @@ module _ {config : Config} {s : List ℕ} (at : Bracket) {cursor : Cursor} {take
         scanned = record { here = at.here; level = at.level + 1; key = None; segment = cursor; taken = taken }
 
     pub brackets_refused : ends ≡ false → (W X : List ℕ)
-        → ReadsLevel config s (bracket_at W X at) W X (still (λ path. after_brackets path)) at.cursor.place
-        (Turned (Refused ByteAfterBrackets taken.cursor.place))
+        → ReadsKey config s (bracket_at W X at) W X (still (λ path. after_brackets path)) at.cursor.place
+        (Err (record { refusal = ByteAfterBrackets; index = taken.cursor.place }))
     brackets_refused u W X =
-        level-on
+        key-on
         (move_on (next_move n e.0 refl (λ path. after_brackets path))
         (due_as (λ path. Command.refuse ByteAfterBrackets then root_key []) (λ path.
         brackets_refuse config path (segment s at.cursor.place taken.cursor.place) taken.symbol (sym g ∙ u))))
-        (omega (arith, taking_on n e.0)) (as_level (refuse-pair ByteAfterBrackets {low = taken.cursor.place}))
+        (omega (arith, taking_on n e.0)) (as_key (refuse-pair ByteAfterBrackets {low = taken.cursor.place}))
 
 -- A scan for the rest of a key, and the taking that ended it.
 key_so_far : {until : Until} {config : Config} {s : List ℕ} {start : Cursor} {taken : Taken} → start.start ≤ start.place
@@ -205,10 +202,10 @@ module _ {config : Config} {s : List ℕ} (at : Bracket) {taken : Taken} (g : Sc
 
   -- The end before a `]`.
   pub below-ended : is ≡ true → (W X : List ℕ)
-      → ReadsLevel config s (bracket_at W X at) W X (still (in_key_below s at)) at.cursor.place (Turned (Refused EndBeforeClosing taken.cursor.place))
+      → ReadsKey config s (bracket_at W X at) W X (still (in_key_below s at)) at.cursor.place (Err (record { refusal = EndBeforeClosing; index = taken.cursor.place }))
   below-ended t W X =
-      level-on (below_move (same-symbol taken.symbol End (sym e ∙ t))) (omega (arith, (scan_bounds g.scan).on))
-      (as_level (refuse-pair EndBeforeClosing {low = taken.cursor.place} {m = λ path. root_key []}))
+      key-on (below_move (same-symbol taken.symbol End (sym e ∙ t))) (omega (arith, (scan_bounds g.scan).on))
+      (as_key (refuse-pair EndBeforeClosing {low = taken.cursor.place} {m = λ path. root_key []}))
 
   -- A `]`: the segment is the key.
   module _ (t : is ≡ false) where
@@ -224,11 +221,11 @@ module _ {config : Config} {s : List ℕ} (at : Bracket) {taken : Taken} (g : Sc
           (took-inside config s taken.cursor.end taken.cursor.place taken.symbol (sym e ∙ t) g.scan.took, omega (arith, b.on, v.1)),
         )
 
-    pub below-after : {r : Level} → ((W X : List ℕ) → ReadsLevel config s (bracket_at W X closed) W X
+    pub below-after : {r : Result ScannedKey Stopped} → ((W X : List ℕ) → ReadsKey config s (bracket_at W X closed) W X
         (still (λ path. after_key path at.level (key_of config (segment s taken.cursor.start taken.cursor.end)))) taken.cursor.place r)
-        → (W X : List ℕ) → ReadsLevel config s (bracket_at W X at) W X (still (in_key_below s at)) at.cursor.place r
+        → (W X : List ℕ) → ReadsKey config s (bracket_at W X at) W X (still (in_key_below s at)) at.cursor.place r
     below-after h W X =
-        level-on (below_move (closing-symbol taken.symbol g.scan.stop (sym e ∙ t))) (omega (arith, (scan_bounds g.scan).on)) (h W X)
+        key-on (below_move (closing-symbol taken.symbol g.scan.stop (sym e ∙ t))) (omega (arith, (scan_bounds g.scan).on)) (h W X)
 
 -- In a key at the depth.
 module _ {config : Config} {s : List ℕ} (at : Bracket) {taken : Taken} (g : Scanned KeyAtDepth config s at.cursor taken)
@@ -243,8 +240,8 @@ module _ {config : Config} {s : List ℕ} (at : Bracket) {taken : Taken} (g : Sc
   at_collects = (omega (arith, at_bounds.0), at_bounds.1)
 
   pub at_deeper : {key : KeyKind} → key_in key y ≡ collected config y → (W X : List ℕ)
-      → ReadsLevel config s (bracket_at W X at) W X (still (in_key_at s at)) at.cursor.place
-      (Deeper (record { here = at.here; level = at.level; key = key; segment = taken.cursor; taken = taken }))
+      → ReadsKey config s (bracket_at W X at) W X (still (in_key_at s at)) at.cursor.place
+      (Ok (record { here = at.here; level = at.level; key = key; segment = taken.cursor; taken = taken }))
   at_deeper {key} k W X =
       let b = scan_bounds g.scan in
       deeper
@@ -274,19 +271,19 @@ module _ {config : Config} {s : List ℕ} (at : Bracket) {taken : Taken} (g : Sc
       long = length-segment s taken.cursor.start taken.cursor.end (omega (arith, at_bounds.0)) at_bounds.1
 
 -- A key below the depth, or at it.
-module _ {config : Config} {s : List ℕ} (at : Bracket) {r : Level} where
+module _ {config : Config} {s : List ℕ} (at : Bracket) {r : Result ScannedKey Stopped} where
   pub key_below : at.level < config.depth
-      → ((W X : List ℕ) → ReadsLevel config s (bracket_at W X at) W X (still (in_key_below s at)) at.cursor.place r)
-      → (W X : List ℕ) → ReadsLevel config s (bracket_at W X at) W X (still (in_key config s at)) at.cursor.place r
+      → ((W X : List ℕ) → ReadsKey config s (bracket_at W X at) W X (still (in_key_below s at)) at.cursor.place r)
+      → (W X : List ℕ) → ReadsKey config s (bracket_at W X at) W X (still (in_key config s at)) at.cursor.place r
   key_below l h W X =
-      level-on (due_as (still (in_key_below s at))
+      key-on (due_as (still (in_key_below s at))
       (λ path. ap (λ (b : Bool). skip then cond b (in_key_below s at path) (in_key_at s at path)) (lt-ltb at.level config.depth l))) (omega arith) (h W X)
 
   pub key-at : config.depth ≤ at.level
-      → ((W X : List ℕ) → ReadsLevel config s (bracket_at W X at) W X (still (in_key_at s at)) at.cursor.place r)
-      → (W X : List ℕ) → ReadsLevel config s (bracket_at W X at) W X (still (in_key config s at)) at.cursor.place r
+      → ((W X : List ℕ) → ReadsKey config s (bracket_at W X at) W X (still (in_key_at s at)) at.cursor.place r)
+      → (W X : List ℕ) → ReadsKey config s (bracket_at W X at) W X (still (in_key config s at)) at.cursor.place r
   key-at l h W X =
-      level-on (due_as (still (in_key_at s at))
+      key-on (due_as (still (in_key_at s at))
       (λ path. ap (λ (b : Bool). skip then cond b (in_key_below s at path) (in_key_at s at path)) (le-ltb at.level config.depth l))) (omega arith) (h W X)
 
 -- A bracket's first byte: any but `]` and the end opens a key.
@@ -314,9 +311,9 @@ module _ {config : Config} {s : List ℕ} (at : Bracket) {cursor : Cursor} {take
   level-symbol y e f = next_move n p (same-symbol taken.symbol y (sym e ∙ f)) (opened s at)
 
   pub level-ended : {W X W' X' : List ℕ} {is : Bool} → is ≡ same_symbol taken.symbol End → is ≡ true
-      → ReadsLevel config s (bracket_at W X at) W' X' (still (opened s at)) at.cursor.place (Turned (Refused EndAfterOpening taken.cursor.place))
+      → ReadsKey config s (bracket_at W X at) W' X' (still (opened s at)) at.cursor.place (Err (record { refusal = EndAfterOpening; index = taken.cursor.place }))
   level-ended e f =
-      level-on (level-symbol End e f) first_on (as_level (refuse-pair EndAfterOpening {low = taken.cursor.place} {m = λ path. root_key []}))
+      key-on (level-symbol End e f) first_on (as_key (refuse-pair EndAfterOpening {low = taken.cursor.place} {m = λ path. root_key []}))
 
   pub level-closing : {W X : List ℕ} {is : Bool} → is ≡ same_symbol taken.symbol Closing → is ≡ true
       → Move config s (bracket_at W X at) (still (opened s at)) (bracket_at W X first) (λ path. need_sequence path then after_brackets path)
@@ -356,13 +353,13 @@ module _ {config : Config} {s : List ℕ} (at : Bracket) {cursor : Cursor} {take
               (λ (j : ℕ). segment s j taken.cursor.place) (sym i))
 
 -- A map or a sequence is needed at the record, and what is read then.
-module _ {config : Config} {s : List ℕ} (at : Bracket) (c : List Key → Command) {W X W1 : List ℕ} {r : Performed}
+module _ {config : Config} {s : List ℕ} (at : Bracket) (c : List Key → Command) {W X W1 : List ℕ} {r : Result Here Refusal}
     (d : Performs W X W1 X at.here (λ env path. perform env (c path)) stays r) (m : List Key → Mode) where
-  pub needed_on : {there : Here} → r ≡ MadeHere there → {z : Level}
-      → ReadsLevel config s (bracket_at W1 X (record { here = there; level = at.level; cursor = at.cursor })) W1 X (still m) at.cursor.place z
-      → ReadsLevel config s (bracket_at W X at) W1 X (λ path. c path then m path) at.cursor.place z
-  needed_on e t = level-on (made_move c stays d e m m (λ path. refl)) (omega arith) t
+  pub needed_on : {there : Here} → r ≡ Ok there → {z : Result ScannedKey Stopped}
+      → ReadsKey config s (bracket_at W1 X (record { here = there; level = at.level; cursor = at.cursor })) W1 X (still m) at.cursor.place z
+      → ReadsKey config s (bracket_at W X at) W1 X (λ path. c path then m path) at.cursor.place z
+  needed_on e t = key-on (made_move c stays d e m m (λ path. refl)) (omega arith) t
 
-  pub needed_refused : {x : Refusal} → r ≡ RefusedThere x → {W' X' : List ℕ}
-      → ReadsLevel config s (bracket_at W X at) W' X' (λ path. c path then m path) at.cursor.place (Turned (Refused x at.cursor.place))
-  needed_refused e = as_level (refused-pair c stays d {low = at.cursor.place} e m)
+  pub needed_refused : {x : Refusal} → r ≡ Err x → {W' X' : List ℕ}
+      → ReadsKey config s (bracket_at W X at) W' X' (λ path. c path then m path) at.cursor.place (Err (record { refusal = x; index = at.cursor.place }))
+  needed_refused e = as_key (refused-pair c stays d {low = at.cursor.place} e m)

@@ -1,4 +1,5 @@
 pub mod Moves
+pub mod Refusals
 pub mod Performing
 pub mod Targets
 pub mod Levels

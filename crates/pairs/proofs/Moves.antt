@@ -1,4 +1,5 @@
 -- A reading moves on: by a taking, by a scan, by a command.
+use Rattle.std.specs.Prelude.{Result, Ok, Err}
 use Prim.Native.Nat.{ℕ, ◌+◌, ◌-◌, ◌≤◌}
 use mathlib.Core.Path.{◌≡◌, refl, sym, ap, ◌∙◌, subst}
 use mathlib.Core.Bool.{Bool, true, not}
@@ -31,12 +32,11 @@ use Rattle.cursor.proofs.From.{from-take, from_end}
 use Rattle.cursor.proofs.Scans.{scan-value, scan-below_depth, scan-at_depth, scan-root}
 use Rattle.tree.specs.declared.Here.{Here}
 use Rattle.tree.specs.Stored.{used_by}
-use Rattle.pairs.specs.declared.turning.Turn.{Turn}
-use Rattle.pairs.specs.declared.turning.Turn.TheVariants.{Going, Refused}
-use Rattle.pairs.specs.declared.turning.Level.{Level}
-use Rattle.pairs.specs.declared.turning.Level.TheVariants.{Deeper, Turned}
+use Rattle.pairs.specs.declared.turning.Between.{Between}
+use Rattle.pairs.specs.declared.turning.ScannedKey.{ScannedKey}
+use Rattle.pairs.specs.declared.turning.Stopped.{Stopped}
 use Rattle.pairs.specs.Progress.{still, step_by, Start, place_at, cover_at, Moment, moment, Reads, SomeReads}
-use Rattle.pairs.specs.Turns.{PairEnds, LevelEnds, ReadsPair, ReadsLevel}
+use Rattle.pairs.specs.Turns.{PairEnds, KeyEnds, ReadsPair, ReadsKey}
 
 -- Whatever the start and the answer are, a reading that has come to the first moment has come to the second.
 pub record Move (config : Config) (input : List ℕ) (m : Moment) (due : List Key → Step) (m' : Moment) (due' : List Key → Step) : Type 0 where
@@ -50,27 +50,26 @@ module _ {config : Config} {input : List ℕ} {m : Moment} {due : List Key → S
   pub move_on : {m'' : Moment} {due'' : List Key → Step} → Move config input m' due' m'' due'' → Move config input m due m'' due''
   move_on n = record { moves = λ o a y. n.moves o a (move.moves o a y) }
 
-  pub pair-on : {W X : List ℕ} {low low' : ℕ} {turn : Turn} → low ≤ low' → ReadsPair config input m' W X due' low' turn
+  pub pair-on : {W X : List ℕ} {low low' : ℕ} {turn : Result Between Stopped} → low ≤ low' → ReadsPair config input m' W X due' low' turn
       → ReadsPair config input m W X due low turn
   pair-on {W} {X} {low} {low'} {turn} l t = record { pair = λ o a y. go o a turn (t.pair o a (move.moves o a y)) }
     where
-      go : (o : Start) (a : Answer) (z : Turn) → PairEnds config input o W X low' a z → PairEnds config input o W X low a z
-      go o a (Going p k) e = (e.0, omega (arith, e.1))
-      go o a (Refused n p) e = e
+      go : (o : Start) (a : Answer) (z : Result Between Stopped) → PairEnds config input o W X low' a z → PairEnds config input o W X low a z
+      go o a (Ok next) e = (e.0, omega (arith, e.1))
+      go o a (Err stopped) e = e
 
-  pub level-on : {W X : List ℕ} {low low' : ℕ} {r : Level} → low ≤ low' → ReadsLevel config input m' W X due' low' r
-      → ReadsLevel config input m W X due low r
-  level-on {W} {X} {low} {low'} {r} l t = record { level = λ o a y. go o a r (t.level o a (move.moves o a y)) }
+  pub key-on : {W X : List ℕ} {low low' : ℕ} {r : Result ScannedKey Stopped} → low ≤ low' → ReadsKey config input m' W X due' low' r
+      → ReadsKey config input m W X due low r
+  key-on {W} {X} {low} {low'} {r} l t = record { key = λ o a y. go o a r (t.key o a (move.moves o a y)) }
     where
-      go : (o : Start) (a : Answer) (z : Level) → LevelEnds config input o W X low' a z → LevelEnds config input o W X low a z
-      go o a (Deeper k) e = (e.0, omega (arith, e.1), e.2)
-      go o a (Turned (Going p k)) e = (e.0, omega (arith, e.1))
-      go o a (Turned (Refused n p)) e = e
+      go : (o : Start) (a : Answer) (z : Result ScannedKey Stopped) → KeyEnds config input o W X low' a z → KeyEnds config input o W X low a z
+      go o a (Ok scanned) e = (e.0, omega (arith, e.1), e.2)
+      go o a (Err stopped) e = e
 
--- A pair that is done is a level that is done.
-pub as_level : {config : Config} {input : List ℕ} {m : Moment} {W X : List ℕ} {due : List Key → Step} {low : ℕ} {turn : Turn}
-    → ReadsPair config input m W X due low turn → ReadsLevel config input m W X due low (Turned turn)
-as_level t = record { level = t.pair }
+-- A refusal ends a pair as it ends a level.
+pub as_key : {config : Config} {input : List ℕ} {m : Moment} {W X : List ℕ} {due : List Key → Step} {low : ℕ} {stopped : Stopped}
+    → ReadsPair config input m W X due low (Err stopped) → ReadsKey config input m W X due low (Err stopped)
+as_key t = record { key = t.pair }
 
 -- The same tree at an index not before, where another step is due: with the same answer, and covered by the bytes taken.
 module _ {config : Config} {input : List ℕ} {start : Start} {W X : List ℕ} {h : Here} {i j : ℕ} {due due' : List Key → Step} {a : Answer} where

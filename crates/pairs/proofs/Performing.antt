@@ -1,4 +1,5 @@
 -- A command is performed: from what the tree's commands ensure to what the functions of this crate ensure.
+use Rattle.std.specs.Prelude.{Result, Ok, Err}
 use Prim.Native.Nat.{ℕ, ◌+◌, ◌≤◌}
 use mathlib.Core.Path.{◌≡◌, refl, sym, ap, ◌∙◌, subst}
 use mathlib.Core.List.{List, []}
@@ -14,15 +15,11 @@ use Rattle.reading.specs.Running.{Answer, refused_at, perform, resume}
 use Rattle.reading.specs.Covering.{Gives, gives, Whatever, Covered}
 use Rattle.cursor.specs.From.{from}
 use Rattle.tree.specs.declared.Here.{Here}
-use Rattle.tree.specs.declared.Performed.{Performed}
-use Rattle.tree.specs.declared.Performed.TheVariants.{Made as MadeHere, Refused as RefusedThere}
 use Rattle.tree.specs.Stored.{used_by}
 use Rattle.tree.specs.Commands.{After, stood, stopped, Performs}
 use Rattle.tree.proofs.StoredTrees.{some as standing}
-use Rattle.pairs.specs.declared.turning.Turn.{Turn}
-use Rattle.pairs.specs.declared.turning.Turn.TheVariants.{Refused}
 use Rattle.pairs.specs.Progress.{still, Start, place_at, cover_at, max_cover, moment, Reads, SomeReads, Performable}
-use Rattle.pairs.specs.Turns.{turn_of, PairEnds, ReadsPair}
+use Rattle.pairs.specs.Turns.{ReadsPair}
 use Rattle.pairs.proofs.Moves.{Move}
 
 -- What a command requires.
@@ -34,12 +31,12 @@ performable r =
 
 -- A performed command, by its refusal or what it made.
 refused-reads : {answer : Answer} {env : Environment} {W X : List ℕ} {path : List Key} {i : ℕ} {x : Refusal} {M : Made Node} (onward : Node → Used → Answer)
-    → After env W X path (RefusedThere x) M → resume i M onward ≡ answer → answer ≡ refused_at x i
+    → After env W X path (Err x) M → resume i M onward ≡ answer → answer ≡ refused_at x i
 refused-reads onward stopped k = sym k
 
 module _ {config : Config} {input : List ℕ} {start : Start} {i : ℕ} {answer : Answer} {env : Environment} {W X : List ℕ} {path : List Key} {m : Mode}
     (small : start.cover + length input ≤ max_cover) (within : i ≤ length input + 1) where
-  made_reads : {there : Here} {M : Made Node} (m' : List Key → Mode) → m ≡ m' path → After env W X path (MadeHere there) M
+  made_reads : {there : Here} {M : Made Node} (m' : List Key → Mode) → m ≡ m' path → After env W X path (Ok there) M
       → Gives (Covered (cover_at start i) m) Whatever M
       → resume (place_at start i) M (λ v u. from config env input i (place_at start i) m v u) ≡ answer
       → Reads config input start (moment W X there i) (still m') answer
@@ -61,28 +58,28 @@ module _ {config : Config} {input : List ℕ} {start : Start} {i : ℕ} {answer 
         within = within;
       }
 
-module _ {W X W' X' : List ℕ} {h : Here} {r : Performed} (c : List Key → Command) (to : List Key → List Key)
+module _ {W X W' X' : List ℕ} {h : Here} {r : Result Here Refusal} (c : List Key → Command) (to : List Key → List Key)
     (d : Performs W X W' X' h (λ env path. perform env (c path)) to r) where
   -- The reading goes on at the record that is answered.
-  pub made_move : {config : Config} {input : List ℕ} {i : ℕ} {there : Here} → r ≡ MadeHere there → (m m' : List Key → Mode)
+  pub made_move : {config : Config} {input : List ℕ} {i : ℕ} {there : Here} → r ≡ Ok there → (m m' : List Key → Mode)
       → ((path : List Key) → m path ≡ m' (to path))
       → Move config input (moment W X h i) (λ path. c path then m path) (moment W' X' there i) (still m')
   made_move e m m' f =
       record {
         moves = λ o a y. made_reads y.small y.within m' (f y.path)
-            (subst (λ (z : Performed). After y.env W' X' (to y.path) z (perform y.env (c y.path) y.tree (used_by h y.laid))) e
+            (subst (λ (z : Result Here Refusal). After y.env W' X' (to y.path) z (perform y.env (c y.path) y.tree (used_by h y.laid))) e
             (d y.env y.path y.tree y.laid y.stored))
             y.covered y.onward;
       }
 
   -- It is refused at the place.
-  pub refused-pair : {config : Config} {input : List ℕ} {i low : ℕ} {x : Refusal} {W'' X'' : List ℕ} → r ≡ RefusedThere x
-      → (m : List Key → Mode) → ReadsPair config input (moment W X h i) W'' X'' (λ path. c path then m path) low (Refused x i)
+  pub refused-pair : {config : Config} {input : List ℕ} {i low : ℕ} {x : Refusal} {W'' X'' : List ℕ} → r ≡ Err x
+      → (m : List Key → Mode) → ReadsPair config input (moment W X h i) W'' X'' (λ path. c path then m path) low (Err (record { refusal = x; index = i }))
   refused-pair {config} {input} {i} e m =
       record {
         pair = λ o a y. (
           refused-reads (from config y.env input i (place_at o i) (m y.path))
-              (subst (λ (z : Performed). After y.env W' X' (to y.path) z (perform y.env (c y.path) y.tree (used_by h y.laid))) e
+              (subst (λ (z : Result Here Refusal). After y.env W' X' (to y.path) z (perform y.env (c y.path) y.tree (used_by h y.laid))) e
               (d y.env y.path y.tree y.laid y.stored))
               y.onward,
           y.within,
@@ -90,16 +87,12 @@ module _ {W X W' X' : List ℕ} {h : Here} {r : Performed} (c : List Key → Com
       }
 
   -- The pair is done.
-  pub performed_pair : {config : Config} {input : List ℕ} {i : ℕ} {turn : Turn} → turn ≡ turn_of r i
-      → ReadsPair config input (moment W X h i) W' X' (λ path. c path then root_key []) i turn
-  performed_pair {config} {input} {i} e = record { pair = λ o a y. subst (λ (z : Turn). PairEnds config input o W' X' i a z) (sym e) (go r refl o a y) }
-    where
-      go : (z : Performed) → r ≡ z → (o : Start) (a : Answer) → Reads config input o (moment W X h i) (λ path. c path then root_key []) a
-          → PairEnds config input o W' X' i a (turn_of z i)
-      go (MadeHere there) q o a y = ((made_move q (λ path. root_key []) (λ path. root_key []) (λ path. refl)).moves o a y, omega arith)
-      go (RefusedThere x) q o a y = (refused-pair {low = i} {W'' = W'} {X'' = X'} q (λ path. root_key [])).pair o a y
+  pub performed_pair : {config : Config} {input : List ℕ} {i : ℕ} {there : Here} → r ≡ Ok there
+      → ReadsPair config input (moment W X h i) W' X' (λ path. c path then root_key []) i (Ok (record { index = i; here = there }))
+  performed_pair e =
+      record { pair = λ o a y. ((made_move e (λ path. root_key []) (λ path. root_key []) (λ path. refl)).moves o a y, omega arith) }
 
 -- The reading is refused where the step is.
 pub refuse-pair : (x : Refusal) {config : Config} {input : List ℕ} {W X : List ℕ} {h : Here} {i : ℕ} {W' X' : List ℕ} {low : ℕ} {m : List Key → Mode}
-    → ReadsPair config input (moment W X h i) W' X' (λ path. Command.refuse x then m path) low (Refused x i)
+    → ReadsPair config input (moment W X h i) W' X' (λ path. Command.refuse x then m path) low (Err (record { refusal = x; index = i }))
 refuse-pair x = record { pair = λ o a y. (sym y.onward, y.within) }

@@ -1,4 +1,5 @@
 -- The root: a pair with a key or without, and the loop over pairs.
+use Rattle.std.specs.Prelude.{Result, Ok, Err}
 use Prim.Native.Nat.{ℕ, zero, suc, ◌+◌, ◌-◌, ◌≤◌}
 use mathlib.Core.Path.{◌≡◌, refl, sym, ap, ◌∙◌, subst}
 use mathlib.Core.Bool.{Bool, true, false, not, ◌&&◌}
@@ -12,7 +13,6 @@ use Rattle.laws.proofs.Cases.{true-false}
 use Rattle.config.specs.declared.Config.{Config}
 use Rattle.key.specs.Keys.{Key}
 use Rattle.key.specs.Collected.{collected, key_in}
-use Rattle.refusals.specs.declared.Refusal.{Refusal}
 use Rattle.reading.specs.Scanning.{Target, root_key, finish, Step, skip, ◌then◌}
 use Rattle.reading.specs.Running.{Answer, refused_at}
 use Rattle.cursor.specs.declared.taking.Cursor.{Cursor}
@@ -29,8 +29,8 @@ use Rattle.cursor.proofs.Scans.{scan_bounds}
 use Rattle.tree.specs.declared.Here.{Here}
 use Rattle.tree.specs.Stored.{used_by}
 use Rattle.tree.proofs.StoredTrees.{at-root}
-use Rattle.pairs.specs.declared.turning.Turn.{Turn}
-use Rattle.pairs.specs.declared.turning.Turn.TheVariants.{Going, Refused}
+use Rattle.pairs.specs.declared.turning.Between.{Between}
+use Rattle.pairs.specs.declared.turning.Stopped.{Stopped}
 use Rattle.pairs.specs.declared.turning.ScannedKey.{ScannedKey}
 use Rattle.pairs.specs.Progress.{still, step_by, Start, place_at, moment, Reads, SomeReads}
 use Rattle.pairs.specs.Turns.{target_at, behind_key, due, Behind, scanned_at, root_of, RootScanned, PairEnds, ReadsPair, AcceptedIn}
@@ -162,7 +162,7 @@ module _ {config : Config} {s : List ℕ} {h : Here} {i : ℕ} {first : ScannedK
 
     -- Nothing is scanned: the next pair starts.
     pub nothing_pair : {W X : List ℕ} → nothing ≡ true
-        → ReadsPair config s (moment W X h i) W X (still (λ path. root_key [])) (i + 1) (Going first.taken.cursor.place first.here)
+        → ReadsPair config s (moment W X h i) W X (still (λ path. root_key [])) (i + 1) (Ok (record { index = first.taken.cursor.place; here = first.here }))
     nothing_pair {W} {X} t =
         let q = nothing_is first.segment.start first.segment.end (stops ValueScan (yielded first.taken.symbol)) (sym e ∙ t) in
         record {
@@ -195,7 +195,7 @@ module _ {config : Config} {s : List ℕ} {h : Here} {i : ℕ} {first : ScannedK
       pub first_move : {W X : List ℕ} → Move config s (moment W X h i) (still (λ path. root_key [])) (scanned_at W X first) (due s first)
       first_move = move_on stopped (root_move g.root (due s first) (λ path. step_is))
 
-      pub first-pair : {W X W' X' : List ℕ} {turn : Turn} → ReadsPair config s (scanned_at W X first) W' X' (due s first) first.taken.cursor.place turn
+      pub first-pair : {W X W' X' : List ℕ} {turn : Result Between Stopped} → ReadsPair config s (scanned_at W X first) W' X' (due s first) first.taken.cursor.place turn
           → ReadsPair config s (moment W X h i) W' X' (still (λ path. root_key [])) (i + 1) turn
       first-pair t = pair-on first_move root-on t
 
@@ -214,18 +214,18 @@ module _ {config : Config} {s W₀ X₀ : List ℕ} {h₀ : Here} {W X : List �
   pub rooting_within : i ≤ length s + 1
   rooting_within = v.some-reads.reads.within
 
-  module _ {W' X' : List ℕ} {turn : Turn} (t : ReadsPair config s (moment W X h i) W' X' (still (λ path. root_key [])) (i + 1) turn) where
-    module _ {j : ℕ} {there : Here} (e : turn ≡ Going j there) where
-      going : (o : Start) (a : Answer) → Reads config s o (moment W X h i) (still (λ path. root_key [])) a → PairEnds config s o W' X' (i + 1) a (Going j there)
-      going o a y = subst (λ (z : Turn). PairEnds config s o W' X' (i + 1) a z) e (t.pair o a y)
+  module _ {W' X' : List ℕ} {turn : Result Between Stopped} (t : ReadsPair config s (moment W X h i) W' X' (still (λ path. root_key [])) (i + 1) turn) where
+    module _ {next : Between} (e : turn ≡ Ok next) where
+      going : (o : Start) (a : Answer) → Reads config s o (moment W X h i) (still (λ path. root_key [])) a → PairEnds config s o W' X' (i + 1) a (Ok next)
+      going o a y = subst (λ (z : Result Between Stopped). PairEnds config s o W' X' (i + 1) a z) e (t.pair o a y)
 
-      ended : PairEnds config s v.some-reads.start W' X' (i + 1) v.some-reads.answer (Going j there)
+      ended : PairEnds config s v.some-reads.start W' X' (i + 1) v.some-reads.answer (Ok next)
       ended = going v.some-reads.start v.some-reads.answer v.some-reads.reads
 
-      pub rooting_less : (i + 1 ≤ j) × (j ≤ length s + 1)
+      pub rooting_less : (i + 1 ≤ next.index) × (next.index ≤ length s + 1)
       rooting_less = (ended.1, ended.0.within)
 
-      pub rooting_more : length W' ≡ length W → length X' ≡ length X → Rooting config s W₀ X₀ h₀ W' X' there j
+      pub rooting_more : length W' ≡ length W → length X' ≡ length X → Rooting config s W₀ X₀ h₀ W' X' next.here next.index
       rooting_more p q =
           record {
             move = move_on v.move (record { moves = λ o a y. (going o a y).0 });
@@ -234,15 +234,15 @@ module _ {config : Config} {s W₀ X₀ : List ℕ} {h₀ : Here} {W X : List �
             text = q ∙ v.text;
           }
 
-    pub rooting_refused : {x : Refusal} {j : ℕ} → turn ≡ Refused x j → {place : ℕ} (o : Start) (a : Answer) → o.place ≡ place
-        → Reads config s o (moment W₀ X₀ h₀ 0) (still (λ path. root_key [])) a → a ≡ refused_at x (place + j)
-    rooting_refused {x} {j} e o a p y =
-        (subst (λ (z : Turn). PairEnds config s o W' X' (i + 1) a z) e (t.pair o a (v.move.moves o a y))).0
-        ∙ ap (λ (q : ℕ). refused_at x (q + j)) p
+    pub rooting_refused : {stopped : Stopped} → turn ≡ Err stopped → {place : ℕ} (o : Start) (a : Answer) → o.place ≡ place
+        → Reads config s o (moment W₀ X₀ h₀ 0) (still (λ path. root_key [])) a → a ≡ refused_at stopped.refusal (place + stopped.index)
+    rooting_refused {stopped} e o a p y =
+        (subst (λ (z : Result Between Stopped). PairEnds config s o W' X' (i + 1) a z) e (t.pair o a (v.move.moves o a y))).0
+        ∙ ap (λ (q : ℕ). refused_at stopped.refusal (q + stopped.index)) p
 
-    pub rooting_inside : {x : Refusal} {j : ℕ} → turn ≡ Refused x j → j ≤ length s + 1
+    pub rooting_inside : {stopped : Stopped} → turn ≡ Err stopped → stopped.index ≤ length s + 1
     rooting_inside e =
-        (subst (λ (z : Turn). PairEnds config s v.some-reads.start W' X' (i + 1) v.some-reads.answer z) e
+        (subst (λ (z : Result Between Stopped). PairEnds config s v.some-reads.start W' X' (i + 1) v.some-reads.answer z) e
         (t.pair v.some-reads.start v.some-reads.answer v.some-reads.reads)).1
 
   pub rooting_done : length s ≤ i → (o : Start) (a : Answer) → Reads config s o (moment W₀ X₀ h₀ 0) (still (λ path. root_key [])) a → AcceptedIn a W X h

@@ -1,5 +1,5 @@
 -- What the functions of this crate ensure: the reading goes on, or is refused, as the definitions have it.
-use Rattle.std.specs.Prelude.{ℕ, zero, suc, ◌+◌, ◌≤◌, ◌<◌, ◌≡◌, true, false, not, cond}
+use Rattle.std.specs.Prelude.{ℕ, zero, suc, ◌+◌, ◌≤◌, ◌<◌, ◌≡◌, true, false, not, cond, Result, Ok, Err}
 use Rattle.std.specs.Prelude.{List, [], ◌∷◌, ◌++◌, eqb, ltb, length}
 use Rattle.std.proofs.Math.Option.{Option, none, some}
 use Rattle.config.specs.declared.Config.{Config}
@@ -9,6 +9,7 @@ use Rattle.key.specs.declared.KeyKind.TheVariants.{None, Int, String}
 use Rattle.key.specs.Keys.{Key, int, str}
 use Rattle.key.specs.Collected.{collected, key_in}
 use Rattle.reading.specs.declared.LeafKind.TheVariants.{NoValue}
+use Rattle.reading.specs.declared.Refused.{Refused}
 use Rattle.reading.specs.Values.{Node}
 use Rattle.reading.specs.Leaves.{no_value}
 use Rattle.reading.specs.Taking.{Symbol, ampersand, equals, opening, closing, other}
@@ -23,22 +24,13 @@ use Rattle.cursor.specs.Takings.{yielded, same_symbol}
 use Rattle.cursor.specs.Scans.{stops, Scan}
 use Rattle.cursor.specs.Collected.{ValueIs}
 use Rattle.tree.specs.declared.Here.{Here}
-use Rattle.tree.specs.declared.Performed.{Performed}
-use Rattle.tree.specs.declared.Performed.TheVariants.{Made, Refused as RefusedThere}
 use Rattle.tree.specs.Stored.{Stores, used_by}
-use Rattle.pairs.specs.declared.turning.Turn.{Turn}
-use Rattle.pairs.specs.declared.turning.Turn.TheVariants.{Going, Refused}
+use Rattle.pairs.specs.declared.turning.Between.{Between}
+use Rattle.pairs.specs.declared.turning.Stopped.{Stopped}
 use Rattle.pairs.specs.declared.turning.Bracket.{Bracket}
 use Rattle.pairs.specs.declared.turning.ScannedKey.{ScannedKey}
-use Rattle.pairs.specs.declared.turning.Level.{Level}
-use Rattle.pairs.specs.declared.turning.Level.TheVariants.{Deeper, Turned}
 use Rattle.pairs.specs.declared.nested.PairValue.{PairValue}
 use Rattle.pairs.specs.Progress.{still, Start, place_at, Moment, moment, Reads}
-
--- A command that ends a pair, by its answer.
-abbrev pub turn_of : Performed → ℕ → Turn
-turn_of (Made there) index = Going index there
-turn_of (RefusedThere x) index = Refused x index
 
 -- Where the value of a pair goes, by the key that is scanned, its raw segment, and the level that a `[` behind it
 -- opens: under the key; without one, at level 0 to the root, else last in the sequence.
@@ -106,41 +98,47 @@ pub data ValueBehind (config : Config) (input : List ℕ) (behind : Taken) (foun
       → found.start ≡ behind.cursor.end → found.end ≡ behind.cursor.end
       → ValueBehind config input behind found
 
+-- The reading is refused at an index.
+abbrev pub StoppedAt : List ℕ → Start → Answer → Stopped → Type 0
+StoppedAt input start answer stopped =
+    (answer ≡ refused_at stopped.refusal (place_at start stopped.index)) × (stopped.index ≤ length input + 1)
+
 -- After a pair: the next one starts, not before an index `low`; or the reading is refused.
-abbrev pub PairEnds : Config → List ℕ → Start → List ℕ → List ℕ → ℕ → Answer → Turn → Type 0
-PairEnds config input start words text low answer (Going index here) =
-    Reads config input start (moment words text here index) (still (λ path. root_key [])) answer × (low ≤ index)
-PairEnds config input start words text low answer (Refused x index) =
-    (answer ≡ refused_at x (place_at start index)) × (index ≤ length input + 1)
+abbrev pub PairEnds : Config → List ℕ → Start → List ℕ → List ℕ → ℕ → Answer → Result Between Stopped → Type 0
+PairEnds config input start words text low answer (Ok next) =
+    Reads config input start (moment words text next.here next.index) (still (λ path. root_key [])) answer
+    × (low ≤ next.index)
+PairEnds config input start words text low answer (Err stopped) = StoppedAt input start answer stopped
 
 -- The moment when a key is scanned.
 abbrev pub scanned_at : List ℕ → List ℕ → ScannedKey → Moment
 scanned_at words text scanned = moment words text scanned.here scanned.taken.cursor.place
 
--- After a level of brackets: the next key is scanned; or the pair is done.
-abbrev pub LevelEnds : Config → List ℕ → Start → List ℕ → List ℕ → ℕ → Answer → Level → Type 0
-LevelEnds config input start words text low answer (Deeper scanned) =
+-- After a level of brackets: the next key is scanned; or the reading is refused.
+abbrev pub KeyEnds :
+    Config → List ℕ → Start → List ℕ → List ℕ → ℕ → Answer → Result ScannedKey Stopped → Type 0
+KeyEnds config input start words text low answer (Ok scanned) =
     Reads config input start (scanned_at words text scanned) (due input scanned) answer
     × (low < scanned.taken.cursor.place) × Behind input scanned
-LevelEnds config input start words text low answer (Turned turn) =
-    PairEnds config input start words text low answer turn
+KeyEnds config input start words text low answer (Err stopped) = StoppedAt input start answer stopped
 
 -- A function reads the rest of a pair, whatever the start and the answer are.
 pub record ReadsPair
     (config : Config) (input : List ℕ) (m : Moment) (words text : List ℕ) (due : List Key → Step) (low : ℕ)
-    (turn : Turn)
+    (r : Result Between Stopped)
     : Type 0 where
   pub pair :
       (start : Start) (answer : Answer)
-      → Reads config input start m due answer → PairEnds config input start words text low answer turn
+      → Reads config input start m due answer → PairEnds config input start words text low answer r
 
--- A function reads on to the next key of a pair, or to its end.
-pub record ReadsLevel
-    (config : Config) (input : List ℕ) (m : Moment) (words text : List ℕ) (due : List Key → Step) (low : ℕ) (r : Level)
+-- A function reads on to the next key of a pair.
+pub record ReadsKey
+    (config : Config) (input : List ℕ) (m : Moment) (words text : List ℕ) (due : List Key → Step) (low : ℕ)
+    (r : Result ScannedKey Stopped)
     : Type 0 where
-  pub level :
+  pub key :
       (start : Start) (answer : Answer)
-      → Reads config input start m due answer → LevelEnds config input start words text low answer r
+      → Reads config input start m due answer → KeyEnds config input start words text low answer r
 
 -- The moment in a bracket, and what it stands at: straight after a `[`, which is the cursor's last taking; or in a key,
 -- with the cursor's segment so far, which runs on to the place: below the depth, at the depth, and either.
@@ -172,9 +170,9 @@ pub record AcceptedIn (answer : Answer) (words text : List ℕ) (here : Here) : 
   pub is : answer ≡ accepted tree (used_by here laid)
 
 -- What `parse_pairs` answers: of a refusal the place (READING, 'Takings'), and not the index.
-abbrev pub PairsEnd : Answer → List ℕ → List ℕ → Turn → Type 0
-PairsEnd answer words text (Going place here) = AcceptedIn answer words text here
-PairsEnd answer words text (Refused x place) = answer ≡ refused_at x place
+abbrev pub PairsEnd : Answer → List ℕ → List ℕ → Result Here Refused → Type 0
+PairsEnd answer words text (Ok here) = AcceptedIn answer words text here
+PairsEnd answer words text (Err refused) = answer ≡ refused_at refused.refusal refused.place
 
 -- The root of the tree that stands there.
 abbrev pub root_of : Here → Here

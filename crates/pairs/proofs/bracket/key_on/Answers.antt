@@ -6,6 +6,6 @@ pub returns-then-bracket-config : goal.returns-then-bracket-config
 returns-then-bracket-config c =
     key_below c.args.bracket c.if-bracket-config.true c.key_below_depth.ensures
 
-pub returns : goal.returns
-returns c =
+pub returns-else-bracket-config : goal.returns-else-bracket-config
+returns-else-bracket-config c =
     key-at c.args.bracket c.if-bracket-config.false c.key_at_depth.ensures

@@ -1,6 +1,6 @@
 -- One taking tells the end, `]` and the first byte of a key apart, as the table has it after a `[`.
 use mathlib.Core.Path.{refl}
-use Rattle.pairs.proofs.Moves.{moved, level-on}
+use Rattle.pairs.proofs.Moves.{moved, key-on}
 use Rattle.pairs.proofs.Levels.{level-ended, level-closing, level-key, level-started, level-inside, first_on}
 use Rattle.pairs.proofs.bracket.parse_level.Goals as goal
 
@@ -16,7 +16,7 @@ parse_brackets-requires c = (
 
 pub returns-then-is-2 : goal.returns-then-is-2
 returns-then-is-2 c =
-    level-on (level-closing c.args.at c.take-taken.ensures refl c.is-2.ensures c.if-is-2.true)
+    key-on (level-closing c.args.at c.take-taken.ensures refl c.is-2.ensures c.if-is-2.true)
     (first_on c.args.at c.take-taken.ensures refl) c.parse_brackets.ensures
 
 pub parse_key-requires : goal.parse_key-requires
@@ -29,9 +29,9 @@ parse_key-requires c = (
   level-inside c.args.at c.take-taken.ensures refl c.is.ensures c.if-is.false c.requires.2,
 )
 
-pub returns : goal.returns
-returns c =
-    level-on
+pub returns-else-is-2 : goal.returns-else-is-2
+returns-else-is-2 c =
+    key-on
     (level-key c.args.at c.take-taken.ensures refl c.is.ensures c.if-is.false c.key_start.ensures c.requires.1
     c.is-2.ensures c.if-is-2.false)
     (first_on c.args.at c.take-taken.ensures refl) c.parse_key.ensures

@@ -6,12 +6,12 @@ pub returns-then-is : goal.returns-then-is
 returns-then-is c =
     brackets_opened c.args.bracket c.take-taken.ensures c.cursor_at-segment.ensures c.requires c.is.ensures c.if-is.true
 
-pub returns-then-ends_scan : goal.returns-then-ends_scan
-returns-then-ends_scan c =
-    brackets_deeper c.args.bracket c.take-taken.ensures c.cursor_at-segment.ensures c.requires c.is.ensures c.if-is.false
-    c.ends_scan.ensures c.if-ends_scan.true
+pub returns-then-not-ends_scan : goal.returns-then-not-ends_scan
+returns-then-not-ends_scan c =
+    brackets_refused c.args.bracket c.take-taken.ensures c.cursor_at-segment.ensures c.requires c.is.ensures c.if-is.false
+    c.ends_scan.ensures c.if-not-ends_scan.true
 
 pub returns : goal.returns
 returns c =
-    brackets_refused c.args.bracket c.take-taken.ensures c.cursor_at-segment.ensures c.requires c.is.ensures c.if-is.false
-    c.ends_scan.ensures c.if-ends_scan.false
+    brackets_deeper c.args.bracket c.take-taken.ensures c.cursor_at-segment.ensures c.requires c.is.ensures c.if-is.false
+    c.ends_scan.ensures c.if-not-ends_scan.false

@@ -4,8 +4,8 @@ use lib.ListN.{length}
 use Rattle.pairs.proofs.Additions.{Nesting}
 use Rattle.pairs.proofs.nested.parse_nested_key.Given as goal
 
-abbrev pub invariant-loop-next : goal.invariant-loop-next
-invariant-loop-next l = Nesting l.config l.input l.initial.words l.initial.text l.initial.scanned l.words l.text l.scanned
+abbrev pub invariant-loop-here : goal.invariant-loop-here
+invariant-loop-here l = Nesting l.config l.input l.initial.words l.initial.text l.initial.scanned l.words l.text l.scanned
 
-abbrev pub decreases-loop-next : goal.decreases-loop-next
-decreases-loop-next l = length l.input + 1 - l.scanned.taken.cursor.place
+abbrev pub decreases-loop-here : goal.decreases-loop-here
+decreases-loop-here l = length l.input + 1 - l.scanned.taken.cursor.place

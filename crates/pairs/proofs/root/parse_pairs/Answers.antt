@@ -1,53 +1,33 @@
-use mathlib.Core.Path.{◌∙◌}
 use native.Mathlib.Omega.{arith}
-use Rattle.pairs.proofs.Roots.{rooting_start, rooting_within, rooting_less, rooting_more, rooting_refused, rooting_inside, rooting_done}
-use borrow.Author.Rules.{rules}
+use Rattle.std.proofs.Common.{◌≡◌, ◌+◌, ◌<◌, ◌^◌, Ok, rules}
+use Rattle.std.proofs.lemmas.Grind.{common_steps}
+use Rattle.std.proofs.lemmas.Result.{err_from_is_err_and}
+use Rattle.pairs.proofs.Refusals.{Placed, stopped-by, at_place}
+use Rattle.pairs.proofs.Roots.{rooting_less, rooting_more, rooting_refused, rooting_inside, rooting_done}
 use Rattle.pairs.proofs.root.parse_pairs.Goals as goal
 
-pub loop-index-init : goal.loop-index-init
-loop-index-init c =
-    (rooting_start c.requires.0, c.requires.1)
+pub map_err-requires : goal.map_err-requires
+map_err-requires c =
+    λ e q. let l : c.args.place + e.index < 2 ^ 32 = omega (arith, c.loop-next.invariant.1, rooting_inside c.loop-next.invariant.0 c.parse_pair.ensures q) in
+    search rules
 
-pub parse_pair-requires : goal.parse_pair-requires
-parse_pair-requires c =
-    (c.loop-index.invariant.0.some-reads, omega (arith, c.loop-index-test.true))
+pub returns-in_err-next : goal.returns-in_err-next
+returns-in_err-next c =
+    let p = err_from_is_err_and c.from_residual.result c.from_residual.ensures.1 in
+    let m : Placed (at_place c.args.place) c.parse_pair.result c.map_err.result = search rules in
+    let q = stopped-by (at_place c.args.place) m c.in_err-next.was in
+    rw (p.1, p.2, q.2) (λ o a e y. rooting_refused c.loop-next.invariant.0 c.parse_pair.ensures {stopped = q.0} q.1 o a e y)
 
-pub loop-index-smaller : goal.loop-index-smaller
-loop-index-smaller c =
-    let w = rooting_less c.loop-index.invariant.0 c.parse_pair.ensures c.in-Going.is in omega (arith, w.0, w.1)
+pub loop-next-smaller : goal.loop-next-smaller
+loop-next-smaller c =
+    let e : c.parse_pair.result ≡ Ok c.in_ok-next.next = grind (arith, common_steps) in
+    let w = rooting_less c.loop-next.invariant.0 c.parse_pair.ensures e in omega (arith, w.0, w.1)
 
-pub loop-index-preserved : goal.loop-index-preserved
-loop-index-preserved c =
-    (rooting_more c.loop-index.invariant.0 c.parse_pair.ensures c.in-Going.is (search rules) (search rules), c.loop-index.invariant.1)
-
-pub overflow_add-result : goal.overflow_add-result
-overflow_add-result c =
-    omega (arith, c.loop-index.invariant.1, rooting_inside c.loop-index.invariant.0 c.parse_pair.ensures c.in-Refused.is)
-
-pub shape_of-words-in-Refused : goal.shape_of-words-in-Refused
-shape_of-words-in-Refused c =
-    c.parse_pair.auto.words ∙ c.loop-index.invariant.0.words
-
-pub shape_of-text-in-Refused : goal.shape_of-text-in-Refused
-shape_of-text-in-Refused c =
-    c.parse_pair.auto.text ∙ c.loop-index.invariant.0.text
-
-pub returns-in-Refused : goal.returns-in-Refused
-returns-in-Refused c =
-    rooting_refused c.loop-index.invariant.0 c.parse_pair.ensures c.in-Refused.is
-
-pub overflow_add-result-2 : goal.overflow_add-result-2
-overflow_add-result-2 c =
-    omega (arith, c.loop-index.invariant.1, rooting_within c.loop-index.invariant.0)
-
-pub shape_of-words : goal.shape_of-words
-shape_of-words c =
-    c.loop-index.invariant.0.words
-
-pub shape_of-text : goal.shape_of-text
-shape_of-text c =
-    c.loop-index.invariant.0.text
+pub loop-next-preserved : goal.loop-next-preserved
+loop-next-preserved c =
+    let e : c.parse_pair.result ≡ Ok c.in_ok-next.next = grind (arith, common_steps) in
+    (rooting_more c.loop-next.invariant.0 c.parse_pair.ensures e (search rules) (search rules), c.loop-next.invariant.1)
 
 pub returns : goal.returns
 returns c =
-    λ o a e y. rooting_done c.loop-index.invariant.0 c.loop-index-test.false o a y
+    λ o a e y. rooting_done c.loop-next.invariant.0 c.loop-next-test.false o a y
