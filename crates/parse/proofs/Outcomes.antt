@@ -1,5 +1,6 @@
 -- The whole reading: from the loop over pairs to `reading`.
-use Prim.Native.Nat.{ℕ, ◌+◌, ◌*◌, ◌≤◌, ◌<◌}
+use Prim.Native.Nat.{ℕ, ◌*◌, ◌≤◌, ◌<◌}
+use Rattle.std.specs.Prelude.{Result, Ok, Err}
 use mathlib.Core.Path.{◌≡◌, refl, sym, ap, ◌∙◌, subst}
 use mathlib.Core.Bool.{Bool, true, false}
 use mathlib.Core.List.{List, [], ◌∷◌, ◌++◌}
@@ -10,7 +11,6 @@ use lib.ListN.{length, take, drop, replicate, length-drop}
 use Rattle.config.specs.declared.Config.{Config}
 use Rattle.config.specs.Limits.{max_depth, max_len}
 use Rattle.row.specs.Row.{record_width, uninitialized_kind, no_value_kind}
-use Rattle.refusals.specs.declared.Refusal.{Refusal}
 use Rattle.refusals.specs.declared.Refusal.TheVariants.{TooDeep, TooLong, NoRecord}
 use Rattle.reading.specs.Values.{uninitialized, no_value}
 use Rattle.reading.specs.Charging.{Lent, root_only}
@@ -18,7 +18,6 @@ use Rattle.reading.specs.Scanning.{root_key}
 use Rattle.reading.specs.Running.{Answer, accepted}
 use Rattle.reading.specs.Reading.{lent_by, alone, lending, parsed, outcome, reading}
 use Rattle.reading.specs.Covering.{gives}
-use Rattle.reading.proofs.Placed.{read_placed}
 use Rattle.reading.proofs.Limits.{limits}
 use Rattle.cursor.specs.From.{from}
 use Rattle.cursor.proofs.From.{from_start}
@@ -33,9 +32,7 @@ use Rattle.tree.proofs.Lays.{full-le}
 use Rattle.tree.proofs.Paths.{root}
 use Rattle.tree.proofs.StoredTrees.{same-lent}
 use Rattle.tree.proofs.Whole.{outcome-is, uninitialized_root, no-value-root}
-use Rattle.parse.specs.declared.Parsed.TheVariants.{Accepted, Refused as RefusedHere}
-use Rattle.pairs.specs.declared.turning.Turn.{Turn}
-use Rattle.pairs.specs.declared.turning.Turn.TheVariants.{Going, Refused}
+use Rattle.reading.specs.declared.Refused.{Refused}
 use Rattle.parse.specs.Outcomes.{outcome_of}
 use Rattle.parse.specs.Begun.{Begun}
 use Rattle.pairs.specs.Progress.{still, Start, moment, Reads, SomeReads}
@@ -105,15 +102,15 @@ module _ (config : Config) (s W X : List ℕ) {R : List ℕ} {aids : ℕ} (small
       ∙ ap (λ (n : ℕ). outcome n (length X) (parsed config s (lent_by W X))) wide
 
   -- The answer to an input that isn't empty.
-  module _ (nonempty : 0 < length s) (W' X' : List ℕ) (w : length W' ≡ length R) (x : length X' ≡ length X) {turn : Turn}
+  module _ (nonempty : 0 < length s) (W' X' : List ℕ) (w : length W' ≡ length R) (x : length X' ≡ length X) {r : Result Here Refused}
       (g : (o : Start) (answer : Answer) → o.place ≡ 0 → Reads config s o (moment R X (start aids) 0) (still (λ path. root_key [])) answer
-      → PairsEnd answer W' X' turn) where
-    ends : {turn' : Turn} → turn ≡ turn' → PairsEnd (parsed config s (lent_by R X)) W' X' turn'
-    ends e = subst (λ (z : Turn). PairsEnd (parsed config s (lent_by R X)) W' X' z) e
-        (subst (λ (z : Answer). PairsEnd z W' X' turn) (sym (from_start config (lent_by R X) s 0 nonempty))
+      → PairsEnd answer W' X' r) where
+    ends : {r' : Result Here Refused} → r ≡ r' → PairsEnd (parsed config s (lent_by R X)) W' X' r'
+    ends e = subst (λ (z : Result Here Refused). PairsEnd (parsed config s (lent_by R X)) W' X' z) e
+        (subst (λ (z : Answer). PairsEnd z W' X' r) (sym (from_start config (lent_by R X) s 0 nonempty))
         (g begin (from config (lending (lent_by R X)) s 0 0 (root_key []) (alone uninitialized) root_only) refl start-reads))
 
-    module _ {place : ℕ} {here : Here} (e : turn ≡ Going place here) where
+    module _ {here : Here} (e : r ≡ Ok here) where
       -- What is used lies in the words and in the text.
       pub used-inside : (here.records ≤ record_count W') × (here.bytes ≤ length X')
       used-inside =
@@ -121,27 +118,20 @@ module _ (config : Config) (s W X : List ℕ) {R : List ℕ} {aids : ℕ} (small
           (y.stores.holds.room, omega (arith, full-le y.laid y.stores.free y.stores.full, y.stores.fill))
 
       pub some-accepted : {W'' X'' : List ℕ} → (W'' ≡ cleared_from (here.records * record_width) W') × (X'' ≡ cleared_from here.bytes X')
-          → outcome_of (Accepted here.records here.bytes) W'' X'' ≡ outcome (length W) (length X) (parsed config s (lent_by W X))
+          → outcome_of (Ok (record { records = here.records; bytes = here.bytes })) W'' X'' ≡ outcome (length W) (length X) (parsed config s (lent_by W X))
       some-accepted q =
           let y = ends e in
           rw (q.0, q.1) (sym (ap (outcome (length R) (length X)) y.is ∙ rw (← w, ← x) (outcome-is y.stores))) ∙ as_lent
 
-    module _ {refusal : Refusal} {place : ℕ} (e : turn ≡ Refused refusal place) where
-      -- A u32 holds the place.
-      pub place_inside : place ≤ max_len + 1
-      place_inside =
-          let inside : place ≤ length s + 1 =
-          subst (λ (z : Answer). (outcome 0 0 z).answer.place ≤ length s + 1) (ends e) (read_placed config s (lent_by R X) 0 0) in
-          omega (arith, small)
-
+    module _ {refused : Refused} (e : r ≡ Err refused) where
       pub some-refused : {W'' X'' : List ℕ} → W'' ≡ replicate (length W') 0 → X'' ≡ replicate (length X') 0
-          → outcome_of (RefusedHere refusal place) W'' X'' ≡ outcome (length W) (length X) (parsed config s (lent_by W X))
+          → outcome_of (Err refused) W'' X'' ≡ outcome (length W) (length X) (parsed config s (lent_by W X))
       some-refused p q = rw (p, q, w, x) (sym (ap (outcome (length R) (length X)) (ends e))) ∙ as_lent
 
 -- An empty input is accepted: its root is NoValue.
 pub empty_accepted : (W X : List ℕ) {R W'' X'' : List ℕ} → record_width ≤ length W → R ≡ rooted no_value_kind W
     → (W'' ≡ cleared_from (1 * record_width) R) × (X'' ≡ cleared_from 0 X)
-    → outcome_of (Accepted 1 0) W'' X'' ≡ outcome (length W) (length X) (accepted (alone no_value) root_only)
+    → outcome_of (Ok (record { records = 1; bytes = 0 })) W'' X'' ≡ outcome (length W) (length X) (accepted (alone no_value) root_only)
 empty_accepted W X some a q =
     rw (q.0, q.1)
     (sym
@@ -166,21 +156,21 @@ module _ (W : List ℕ) {n : ℕ} {b : Bool} (e : b ≡ leb n (record_count W)) 
 
 -- Refusals 1 to 3.
 module _ (config : Config) (s W X : List ℕ) where
-  pub too_deep : ltb max_depth config.depth ≡ true → outcome_of (RefusedHere TooDeep 0) W X ≡ reading config s W X
+  pub too_deep : ltb max_depth config.depth ≡ true → outcome_of (Err (record { refusal = TooDeep; place = 0 })) W X ≡ reading config s W X
   too_deep h = sym (limits.deep config s W X (ltb-true max_depth config.depth h))
 
   module _ (h : ltb max_depth config.depth ≡ false) where
     shallow : config.depth ≤ max_depth
     shallow = ltb-false max_depth config.depth h
 
-    pub too_long : ltb max_len (length s) ≡ true → outcome_of (RefusedHere TooLong 0) W X ≡ reading config s W X
+    pub too_long : ltb max_len (length s) ≡ true → outcome_of (Err (record { refusal = TooLong; place = 0 })) W X ≡ reading config s W X
     too_long k = sym (limits.long config s W X shallow (ltb-true max_len (length s) k))
 
     module _ (k : ltb max_len (length s) ≡ false) where
       short : length s ≤ max_len
       short = ltb-false max_len (length s) k
 
-      pub no_record : length W < record_width → outcome_of (RefusedHere NoRecord 0) W X ≡ reading config s W X
+      pub no_record : length W < record_width → outcome_of (Err (record { refusal = NoRecord; place = 0 })) W X ≡ reading config s W X
       no_record l = sym (limits.few config s W X shallow short l)
 
       pub is_read : record_width ≤ length W → outcome (length W) (length X) (parsed config s (lent_by W X)) ≡ reading config s W X

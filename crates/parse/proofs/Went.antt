@@ -1,5 +1,6 @@
 -- How a reading went: it accepted, with a tree of which all is proved that readings make; or it refused, by a number above 0.
 use Prim.Native.Nat.{ℕ}
+use Rattle.std.specs.Prelude.{Result}
 use mathlib.Core.Path.{◌≡◌, refl, sym, ap, ◌∙◌, subst}
 use mathlib.Core.Logic.{◌≢◌}
 use mathlib.Core.List.{List}
@@ -18,8 +19,10 @@ use Rattle.reading.specs.Reading.{Outcome, lent_by, outcome, Read, passed, met, 
 use Rattle.reading.proofs.Runs.{Ends, accepts, refuses_at}
 use Rattle.reading.proofs.Reaching.{Numbered}
 use Rattle.reading.proofs.Outcomes.{Sound, read_cases, parsed-sound}
-use Rattle.parse.specs.declared.Parsed.{Parsed}
-use Rattle.parse.specs.Outcomes.{answer_of, outcome_of as parsed_outcome}
+use Rattle.reading.specs.declared.Used.{Used as UsedThere}
+use Rattle.reading.specs.declared.Refused.{Refused}
+use Rattle.reading.specs.Results.{answer_of}
+use Rattle.parse.specs.Outcomes.{outcome_of as parsed_outcome}
 
 pub data Went (words text : List ℕ) : Read → Type 0 where
   accepting : {n : Node} {u : Used} → Sound (lent_by words text) n u → Went words text (passed n (outcome (length words) (length text) (accepted n u)))
@@ -36,7 +39,7 @@ went config input words text =
     go (refuses_at {x = x} h) = refusing x refl
 
 -- What a call makes of a reading, by the number that it answers: parse's answer as the four numbers, and what it leaves.
-module _ (config : Config) (input words text W X : List ℕ) (p : Parsed) {reading : Reading} (told : reading ≡ answer_of p)
+module _ (config : Config) (input words text W X : List ℕ) (p : Result UsedThere Refused) {reading : Reading} (told : reading ≡ answer_of p)
     (ensured : parsed_outcome p W X ≡ outcome_of (read config input words text)) where
   abbrev pub after_it : Outcome
   after_it = record { answer = reading; words = W; text = X }

@@ -1,8 +1,9 @@
 -- A call of `parse`, by its contract alone.
-use Rattle.std.specs.Prelude.{ℕ, ◌≡◌, List}
+use Rattle.std.specs.Prelude.{ℕ, ◌≡◌, List, Result}
 use Rattle.config.specs.declared.Config.{Config}
 use Rattle.reading.specs.Reading.{Outcome, reading}
-use Rattle.parse.specs.declared.Parsed.{Parsed}
+use Rattle.reading.specs.declared.Used.{Used}
+use Rattle.reading.specs.declared.Refused.{Refused}
 use Rattle.parse.specs.Outcomes.{outcome_of}
 
 -- What it was lent, what it answered and what it left in the words and the text, and that this is what the contract
@@ -10,7 +11,7 @@ use Rattle.parse.specs.Outcomes.{outcome_of}
 pub record Call (config : Config) (input : List ℕ) : Type 0 where
   pub lent_words : List ℕ
   pub lent_text : List ℕ
-  pub answer : Parsed
+  pub answer : Result Used Refused
   pub words : List ℕ
   pub text : List ℕ
   pub ensured : outcome_of answer words text ≡ reading config input lent_words lent_text

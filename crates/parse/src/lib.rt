@@ -10,6 +10,7 @@ ghost use Rattle.std.specs.Prelude.{◌≡◌, ◌*◌, ◌≤◌, ◌<◌, leng
 ghost use Rattle.config.specs.Limits.{max_len};
 ghost use Rattle.row.specs.Row.{record_width};
 ghost use Rattle.row.specs.Words.{record_count};
+ghost use Rattle.row.specs.Kinds.{kind_number};
 ghost use Rattle.reading.specs.Values.{no_value};
 ghost use Rattle.reading.specs.Charging.{root_only};
 ghost use Rattle.reading.specs.Running.{accepted};
@@ -17,62 +18,34 @@ ghost use Rattle.reading.specs.Reading.{alone, lent_by, parsed, outcome, reading
 ghost use Rattle.records.specs.Records.{with_record};
 ghost use Rattle.indexed.specs.Adding.{unkeyed, childless};
 ghost use Rattle.tree.specs.Stored.{cleared_from};
-ghost use Rattle.parse.specs.Outcomes.{answer_of, outcome_of};
+ghost use Rattle.parse.specs.Outcomes.{outcome_of};
 ghost use Rattle.parse.specs.Begun.{Begun};
 
 use clearing::{clear_text, clear_words};
 use config::Config;
 use indexed::growing;
-use pairs::{Turn, parse_pairs};
+use pairs::parse_pairs;
 pub use parser::{Parser, parse_at};
-use reading::Reading;
+use reading::{Refused, Used};
 use records::store;
 use records::store::{KeyWords, Record, ValueWords};
 use refusals::Refusal;
+use row::{KeyKind, Kind};
 use tree::Here;
 
-// The answer of a reading: accepted, with the records and the text bytes used; or the refusal and its place.
-#[derive(Clone, Copy)]
-pub enum Parsed {
-    Accepted(u32, u32),
-    Refused(Refusal, u32),
-}
-
-impl Parsed {
-    // The answer as the four numbers of READING, 'Records'.
-    pub fn answer(self) -> Reading
-        ensures { result ≡ answer_of self }
-    {
-        match self {
-            Parsed::Accepted(records, bytes) => Reading {
-                number: 0,
-                place: 0,
-                records,
-                bytes,
-            },
-            Parsed::Refused(refusal, place) => Reading {
-                number: refusals::code(refusal),
-                place,
-                records: 0,
-                bytes: 0,
-            },
-        }
-    }
-}
-
 // Writes record 0 whole, as a root of a kind, with no text and no child. Nothing else changes.
-fn write_root(words: &mut [u32], kind: u32)
+fn write_root(words: &mut [u32], kind: Kind)
     requires { record_width ≤ length words.old }
-    ensures { words.new ≡ with_record words.old 0 (unkeyed (childless kind)) 0 }
+    ensures { words.new ≡ with_record words.old 0 (unkeyed (childless (kind_number kind))) 0 }
 {
     let root = Record {
         key: KeyWords {
-            kind: row::NO_KEY,
+            kind: KeyKind::None.into(),
             offset: 0,
             len: 0,
         },
         value: ValueWords {
-            kind,
+            kind: kind.into(),
             offset: 0,
             len: 0,
         },
@@ -85,25 +58,28 @@ fn begin(words: &mut [u32]) -> u32
     requires { record_width ≤ length words.old }
     ensures { Begun words.old words.new result }
 {
-    write_root(words, row::UNINITIALIZED);
+    write_root(words, Kind::Uninitialized);
     growing::start(words)
 }
 
-// Clears what isn't used of the words and of the text: behind so many records, and behind so many bytes.
-fn clear_unused(words: &mut [u32], text: &mut [u8], records: u32, bytes: u32)
-    requires { (records ≤ record_count words.old) × (bytes ≤ length text.old) }
-    ensures { (words.new ≡ cleared_from (records * record_width) words.old)
-        × (text.new ≡ cleared_from bytes text.old) }
+// Clears what isn't used of the words and of the text.
+fn clear_unused(words: &mut [u32], text: &mut [u8], used: Used)
+    requires { (used.records ≤ record_count words.old) × (used.bytes ≤ length text.old) }
+    ensures { (words.new ≡ cleared_from (used.records * record_width) words.old)
+        × (text.new ≡ cleared_from used.bytes text.old) }
 {
-    let free = records as usize * row::WIDTH;
-    let rest = bytes as usize;
-    clear_words(&mut words[free..]);
-    clear_text(&mut text[rest..]);
+    clear_words(&mut words[used.records as usize * row::WIDTH..]);
+    clear_text(&mut text[used.bytes as usize..]);
 }
 
 // Reads an input that isn't empty, from an Uninitialized root on. What isn't used is cleared at the end, which after a
 // refusal is all.
-fn parse_some(input: &[u8], config: Config, words: &mut [u32], text: &mut [u8]) -> Parsed
+fn parse_some(
+    input: &[u8],
+    config: Config,
+    words: &mut [u32],
+    text: &mut [u8],
+) -> Result<Used, Refused>
     requires { (0 < length input.now) × (length input.now ≤ max_len) × (record_width ≤ length words.old) }
     ensures { outcome_of result words.new text.new
         ≡ outcome (length words.old) (length text.old)
@@ -117,63 +93,95 @@ fn parse_some(input: &[u8], config: Config, words: &mut [u32], text: &mut [u8]) 
         aids,
     };
     match parse_pairs(input, config, words, text, root, 0) {
-        Turn::Going(_, here) => {
-            clear_unused(words, text, here.records, here.bytes);
-            Parsed::Accepted(here.records, here.bytes)
+        Ok(here) => {
+            let used = Used {
+                records: here.records,
+                bytes: here.bytes,
+            };
+            clear_unused(words, text, used);
+            Ok(used)
         }
-        Turn::Refused(refusal, place) => {
-            let at = place as u32;
+        Err(refused) => {
             clear_words(words);
             clear_text(text);
-            Parsed::Refused(refusal, at)
+            Err(refused)
         }
     }
 }
 
 // Reads an empty input: a NoValue root. The rest is cleared.
-fn parse_empty(words: &mut [u32], text: &mut [u8]) -> Parsed
+fn parse_empty(words: &mut [u32], text: &mut [u8]) -> Used
     requires { record_width ≤ length words.old }
-    ensures { outcome_of result words.new text.new
+    ensures { outcome_of (Ok result) words.new text.new
         ≡ outcome (length words.old) (length text.old) (accepted (alone no_value) root_only) }
 {
-    write_root(words, row::NO_VALUE);
-    clear_unused(words, text, 1, 0);
-    Parsed::Accepted(1, 0)
+    write_root(words, Kind::NoValue);
+    let used = Used {
+        records: 1,
+        bytes: 0,
+    };
+    clear_unused(words, text, used);
+    used
 }
 
 // Reads the input into slices that have room for a root.
-fn parse_lent(input: &[u8], config: Config, words: &mut [u32], text: &mut [u8]) -> Parsed
+fn parse_lent(
+    input: &[u8],
+    config: Config,
+    words: &mut [u32],
+    text: &mut [u8],
+) -> Result<Used, Refused>
     requires { (length input.now ≤ max_len) × (record_width ≤ length words.old) }
     ensures { outcome_of result words.new text.new
         ≡ outcome (length words.old) (length text.old)
         (parsed config input.now (lent_by words.old text.old)) }
 {
-    if input.len() == 0 {
-        return parse_empty(words, text);
+    if input.is_empty() {
+        Ok(parse_empty(words, text))
+    } else {
+        parse_some(input, config, words, text)
     }
-    parse_some(input, config, words, text)
 }
 
 // Reads the input unless refusals 1 to 3 stand against it, which leave words and text unchanged.
-fn parse_input(input: &[u8], config: Config, words: &mut [u32], text: &mut [u8]) -> Parsed
+fn parse_input(
+    input: &[u8],
+    config: Config,
+    words: &mut [u32],
+    text: &mut [u8],
+) -> Result<Used, Refused>
     ensures { outcome_of result words.new text.new
         ≡ reading config input.now words.old text.old }
 {
     if config.is_too_deep() {
-        return Parsed::Refused(Refusal::TooDeep, 0);
+        return Err(Refused {
+            refusal: Refusal::TooDeep,
+            place: 0,
+        });
     }
     if Config::is_too_long(input.len()) {
-        return Parsed::Refused(Refusal::TooLong, 0);
+        return Err(Refused {
+            refusal: Refusal::TooLong,
+            place: 0,
+        });
     }
-    if row::has_room(words, 1) {
-        return parse_lent(input, config, words, text);
+    if !row::has_room(words, 1) {
+        return Err(Refused {
+            refusal: Refusal::NoRecord,
+            place: 0,
+        });
     }
-    Parsed::Refused(Refusal::NoRecord, 0)
+    parse_lent(input, config, words, text)
 }
 
 // Reads the input into the lent words and text. Refusals 1 to 3 leave both unchanged, the later ones leave both zero;
 // an accepted reading leaves zeros behind what it uses.
-pub fn parse(input: &[u8], config: Config, words: &mut [u32], text: &mut [u8]) -> Parsed
+pub fn parse(
+    input: &[u8],
+    config: Config,
+    words: &mut [u32],
+    text: &mut [u8],
+) -> Result<Used, Refused>
     ensures { outcome_of result words.new text.new
         ≡ reading config input.now words.old text.old }
 {

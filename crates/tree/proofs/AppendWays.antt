@@ -7,11 +7,8 @@ use native.Mathlib.Omega.{arith}
 use lib.ListN.{length, drop, length-append}
 use Rattle.key.specs.Keys.{Key}
 use Rattle.decode.specs.Shown.{length_of}
-use Rattle.indexed.specs.declared.appending.Appended.{Appended}
-use Rattle.indexed.specs.declared.appending.Appended.TheVariants.{Used, TooFew}
 use Rattle.records.specs.declared.store.ValueWords.{ValueWords}
 use Rattle.row.specs.Words.{record_count}
-use Rattle.aids.specs.declared.Among.{Among}
 use Rattle.indexed.specs.Adding.{Change, Leaves, Appends, appended}
 use Rattle.finding.specs.Aids.{aids_for, Grown}
 use Rattle.records.specs.Nodes.{Nodes, node, plug}
@@ -50,15 +47,15 @@ leaf_words NoValue raw o = refl
 leaf_words String raw o = refl
 
 -- An answer of `append` is one or the other.
-used-or-few : {A : Type 0} {u : ℕ} → Used u ≡ TooFew → A
+used-or-few : {A : Type 0} {u : ℕ} → Some u ≡ None → A
 used-or-few e = absurd (let z : ◌≡◌ {A = ℕ} 0 1 = cc in omega arith)
 
 -- What a change leaves: its answer, and where there are enough records its words but behind the aids.
-answer-is : {change : Change} {aids : ℕ} {ws' : List ℕ} {a : Appended} → Leaves change aids ws' a → a ≡ change.answer
+answer-is : {change : Change} {aids : ℕ} {ws' : List ℕ} {a : Option ℕ} → Leaves change aids ws' a → a ≡ change.answer
 answer-is (Leaves.enough e g) = sym e
 answer-is (Leaves.few e) = sym e
 
-grown_is : {change : Change} {aids : ℕ} {ws' : List ℕ} {a : Appended} {u : ℕ} → Leaves change aids ws' a → a ≡ Used u
+grown_is : {change : Change} {aids : ℕ} {ws' : List ℕ} {a : Option ℕ} {u : ℕ} → Leaves change aids ws' a → a ≡ Some u
     → Grown change.words aids u ws'
 grown_is {change} {aids} {ws'} {u = u} (Leaves.enough {n = n} e g) q =
     let f : n ≡ u = cc in subst (λ (m : ℕ). Grown change.words aids m ws') f g
@@ -87,7 +84,7 @@ module _ {env : Environment} {ws text : List ℕ} {here : Here} {p : List Key} {
   rule_is : along p (append_value env x) v before ≡ over i.back (append_value env x i.row i.value before)
   rule_is = ap (λ (y : Node). along p (append_value env x) y before) i.whole ∙ i.does i.value (append_value env x) before
 
-  module _ {ws' : List ℕ} {a : Appended} (is : Leaves change here.aids ws' a) where
+  module _ {ws' : List ℕ} {a : Option ℕ} (is : Leaves change here.aids ws' a) where
     abbrev Goal : Result Here Refusal → Type 0
     Goal r = After env ws' text' p r (along p (append_value env x) v (used_by here t))
 
@@ -95,7 +92,7 @@ module _ {env : Environment} {ws text : List ℕ} {here : Here} {p : List Key} {
     to {r} g = subst (λ (m : Made Node). After env ws' text' p r m) (sym rule_is) g
 
     -- Too few records.
-    pub few-left : a ≡ TooFew → Goal (Err TooFewRecords)
+    pub few-left : a ≡ None → Goal (Err TooFewRecords)
     few-left q = to (go agreed)
       where
         go : {m : Made Node} → Agree text' env x t c change T m → After env ws' text' p (Err TooFewRecords) (over i.back m)
@@ -107,7 +104,7 @@ module _ {env : Environment} {ws text : List ℕ} {here : Here} {p : List Key} {
     bytes-lent = ap (λ (l : Lent). l.bytes) s.lent_is
 
     -- Too little text.
-    pub little-left : {u : ℕ} → a ≡ Used u → length text < here.bytes + length (leaf_text x) → Goal (Err TooLittleText)
+    pub little-left : {u : ℕ} → a ≡ Some u → length text < here.bytes + length (leaf_text x) → Goal (Err TooLittleText)
     little-left q l = to (go agreed)
       where
         go : {m : Made Node} → Agree text' env x t c change T m → After env ws' text' p (Err TooLittleText) (over i.back m)
@@ -116,7 +113,7 @@ module _ {env : Environment} {ws text : List ℕ} {here : Here} {p : List Key} {
         go (little g b) = stopped
 
     -- Enough of both.
-    pub added : {u : ℕ} → a ≡ Used u → length ws' ≡ length ws → value_words (value_at x (length t)) ≡ c
+    pub added : {u : ℕ} → a ≡ Some u → length ws' ≡ length ws → value_words (value_at x (length t)) ≡ c
         → (free : List ℕ) → text' ≡ (t ++ leaf_text x) ++ free → here.bytes + length (leaf_text x) ≤ length text
         → Goal (Ok (record { records = u; bytes = here.bytes + length (leaf_text x); node = here.node; aids = aids_for here.aids u }))
     added {u} q lw fits free full' l =
@@ -130,7 +127,7 @@ module _ {env : Environment} {ws text : List ℕ} {here : Here} {p : List Key} {
             → After env ws' text' p
             (Ok (record { records = u; bytes = here.bytes + length (leaf_text x); node = here.node; aids = aids_for here.aids u })) (over i.back m)
         go (good {u = n} g b h) (row_kept {w = w}) (gives e) (gives o) =
-            let same : Used n ≡ Used u = sym b ∙ sym (answer-is is) ∙ q in
+            let same : Some n ≡ Some u = sym b ∙ sym (answer-is is) ∙ q in
             let same-used : n ≡ u = cc in
             let filled : here.bytes + length (leaf_text x) ≡ length (t ++ leaf_text x) = omega (arith, s.stores.fill, length-append t (leaf_text x)) in
             stood same-used
@@ -155,7 +152,7 @@ module _ {env : Environment} {ws text : List ℕ} {here : Here} {p : List Key} {
         go (little g b) k e o = absurd (omega (arith, s.stores.fill, bytes-lent))
 
 -- The code's ways, by its own facts.
-module _ (ws text : List ℕ) (here : Here) (kind : LeafKind) (value : List ℕ) {ws' text' : List ℕ} {d : Option ℕ} (c : ValueWords) {a : Appended}
+module _ (ws text : List ℕ) (here : Here) (kind : LeafKind) (value : List ℕ) {ws' text' : List ℕ} {d : Option ℕ} (c : ValueWords) {a : Option ℕ}
     (e : d ≡ lay_answer text here.bytes (leaf_text (leaf_of kind value))) (et : text' ≡ laid text here.bytes (leaf_text (leaf_of kind value)))
     (does : Appends ws text' (among_of here) c ws' a) where
   abbrev x : Leaf
@@ -198,7 +195,7 @@ module _ (ws text : List ℕ) (here : Here) (kind : LeafKind) (value : List ℕ)
           ap (λ (o : ℕ). value_words (value_at x o)) (sym s.stores.fill) ∙ leaf_words kind value here.bytes
           ∙ ap (λ (m : ℕ). new_value_words kind here.bytes m) (sym len_is) ∙ sym ec
 
-    append-made : {u : ℕ} → a ≡ Used u → length ws' ≡ length ws
+    append-made : {u : ℕ} → a ≡ Some u → length ws' ≡ length ws
         → Promise (Ok (record { records = u; bytes = here.bytes + len; node = here.node; aids = aids_for here.aids u }))
     append-made {u} z lw env p v t s =
         subst
@@ -208,7 +205,7 @@ module _ (ws text : List ℕ) (here : Here) (kind : LeafKind) (value : List ℕ)
         (sym len_is)
         (added (kept s) x text' (leaf_text x ++ left) (split s) (long s) c is z (lw ∙ sym does.kept.as_many) (words_are s) left (whole s) fits)
 
-    append-few : a ≡ TooFew → Promise (Err TooFewRecords)
+    append-few : a ≡ None → Promise (Err TooFewRecords)
     append-few z env p v t s = few-left (kept s) x text' (leaf_text x ++ left) (split s) (long s) c is z
 
   -- It doesn't fit.
@@ -219,11 +216,11 @@ module _ (ws text : List ℕ) (here : Here) (kind : LeafKind) (value : List ℕ)
     same : text' ≡ text
     same = et ∙ laid_short text here.bytes (leaf_text x) over-full
 
-    unfit_little : {u : ℕ} → a ≡ Used u → Promise (Err TooLittleText)
+    unfit_little : {u : ℕ} → a ≡ Some u → Promise (Err TooLittleText)
     unfit_little z env p v t s =
         little-left (kept s) x text' s.stores.free (same ∙ s.stores.full) (ap length same) c is z over-full
 
-    unfit_few : a ≡ TooFew → Promise (Err TooFewRecords)
+    unfit_few : a ≡ None → Promise (Err TooFewRecords)
     unfit_few z env p v t s = few-left (kept s) x text' s.stores.free (same ∙ s.stores.full) (ap length same) c is z
 
   -- By the answer of `append`.
@@ -231,14 +228,14 @@ module _ (ws text : List ℕ) (here : Here) (kind : LeafKind) (value : List ℕ)
     words_of : {len : ℕ} → d ≡ Some len → c ≡ new_value_words kind here.bytes len
     words_of q = ec ∙ ap (λ (k : Option ℕ). new_value_words kind here.bytes (length_of k)) q
 
-    pub append-enough : {u : ℕ} → a ≡ Used u → length ws' ≡ length ws → Promise (appended_at here d u)
+    pub append-enough : {u : ℕ} → a ≡ Some u → length ws' ≡ length ws → Promise (appended_at here d u)
     append-enough {u} z lw = go d refl
       where
         go : (k : Option ℕ) → d ≡ k → Promise (appended_at here d u)
         go (Some len) q = subst (λ (k : Option ℕ). Promise (appended_at here k u)) (sym q) (append-made q (words_of q) z lw)
         go None q = subst (λ (k : Option ℕ). Promise (appended_at here k u)) (sym q) (unfit_little q z)
 
-    pub append_too_few : a ≡ TooFew → Promise (Err TooFewRecords)
+    pub append_too_few : a ≡ None → Promise (Err TooFewRecords)
     append_too_few z = go d refl
       where
         go : (k : Option ℕ) → d ≡ k → Promise (Err TooFewRecords)

@@ -1,4 +1,5 @@
 -- A value added at a record (`append` on the words) is a value added to the tree (`append_value` of the definitions).
+use Rattle.std.specs.Prelude.{Ok, Err, Some, None}
 use mathlib.Core.Path.{◌≡◌, refl, ap, sym, ◌∙◌, subst}
 use mathlib.Core.List.{List, [], ◌++◌}
 use mathlib.Core.Bool.{Bool, true, false, cond}
@@ -10,13 +11,10 @@ use lib.Dec.{ltb}
 use borrow.Author.Tests.{lt-ltb, le-ltb, le-leb, lt-leb}
 use Rattle.laws.proofs.Cases.{by_test}
 use Rattle.key.specs.Keys.{str}
-use Rattle.indexed.specs.declared.appending.Appended.TheVariants.{Used, TooFew}
-use Rattle.records.specs.declared.siblings.Position.{Position}
-use Rattle.records.specs.declared.siblings.Position.TheVariants.{Found, Between}
 use Rattle.records.specs.declared.store.ValueWords.{ValueWords}
 use Rattle.row.specs.Words.{record_count}
 use Rattle.records.specs.Records.{with_value, inserted}
-use Rattle.records.specs.Siblings.{position, children, last_of}
+use Rattle.records.specs.Siblings.{position, children, last_of, Position, between}
 use Rattle.indexed.specs.Adding.{Change, if_room, unkeyed as element_of, empty_keyed, sequence_of_two, pushed, paired}
 use Rattle.indexed.specs.Adding.{appended_here, child_added, at_position, appended}
 use Rattle.records.specs.Nodes.{Nodes, nil, node, Context, plug}
@@ -93,11 +91,11 @@ leaf_below (Leaf.string x) o = refl
 -- What the words' change and the definitions make of a record agree. The tree is held if the words c are the new value's: they needn't be where
 -- its text doesn't fit.
 pub data Agree (text : List ℕ) (E : Environment) (x : Leaf) (t : List ℕ) (c : ValueWords) (o : Change) (T : Node → Nodes) : Made Node → Type 0 where
-  good : {w : Node} {u : ℕ} → length t + length (leaf_text x) ≤ E.lent.bytes → o.answer ≡ Used u
+  good : {w : Node} {u : ℕ} → length t + length (leaf_text x) ≤ E.lent.bytes → o.answer ≡ Some u
       → (value_words (value_at x (length t)) ≡ c → Holds o.words text u (T w))
       → Agree text E x t c o T (made w (record { records = u; text = t ++ leaf_text x }))
-  few : o.answer ≡ TooFew → Agree text E x t c o T (refused TooFewRecords)
-  little : {u : ℕ} → E.lent.bytes < length t + length (leaf_text x) → o.answer ≡ Used u → Agree text E x t c o T (refused TooLittleText)
+  few : o.answer ≡ None → Agree text E x t c o T (refused TooFewRecords)
+  little : {u : ℕ} → E.lent.bytes < length t + length (leaf_text x) → o.answer ≡ Some u → Agree text E x t c o T (refused TooLittleText)
 
 module _ (ws text : List ℕ) (used : ℕ) (E : Environment) (x : Leaf) (t zs : List ℕ) (c : ValueWords)
     (records : E.lent.records ≡ record_count ws) (full : text ≡ t ++ zs) where
@@ -111,8 +109,8 @@ module _ (ws text : List ℕ) (used : ℕ) (E : Environment) (x : Leaf) (t zs : 
   before = record { records = used; text = t }
 
   -- k records more, by the store's check and by the definitions'.
-  by_charge : (k : ℕ) (o : Change) (T : Node → Nodes) (w : Node) → (record_count ws < used + k → o.answer ≡ TooFew)
-      → (used + k ≤ record_count ws → (o.answer ≡ Used (used + k)) × (Fits → Holds o.words text (used + k) (T w)))
+  by_charge : (k : ℕ) (o : Change) (T : Node → Nodes) (w : Node) → (record_count ws < used + k → o.answer ≡ None)
+      → (used + k ≤ record_count ws → (o.answer ≡ Some (used + k)) × (Fits → Holds o.words text (used + k) (T w)))
       → Agrees o T (charge E k (leaf_text x) w before)
   by_charge k o T w short enough = go (dec_lt E.lent.records (used + k)) (dec_lt E.lent.bytes (length t + length (leaf_text x)))
     where
@@ -166,14 +164,14 @@ module _ (ws text : List ℕ) (used : ℕ) (E : Environment) (x : Leaf) (t zs : 
 
     -- Uninitialized: the value is put there.
     turns_into : Holds ws text used (T (at l uninitialized))
-        → Agrees (record { words = with_value ws n c; answer = Used used }) T (charge E 0 (leaf_text x) (at l (value_at x (length t))) before)
+        → Agrees (record { words = with_value ws n c; answer = Some used }) T (charge E 0 (leaf_text x) (at l (value_at x (length t))) before)
     turns_into k =
         let e : used + 0 ≡ used = omega arith in
-        by_charge 0 (record { words = with_value ws n c; answer = Used used }) T (at l (value_at x (length t))) (λ f. absurd (omega (arith, k.room)))
-        (λ f. (ap Used (sym e), λ m. rw (e, leaf_below x (length t), m) (value-holds n (record_of l uninitialized) nil s a k c)))
+        by_charge 0 (record { words = with_value ws n c; answer = Some used }) T (at l (value_at x (length t))) (λ f. absurd (omega (arith, k.room)))
+        (λ f. (ap Some (sym e), λ m. rw (e, leaf_below x (length t), m) (value-holds n (record_of l uninitialized) nil s a k c)))
 
     -- A Map takes a new child under its empty key.
-    new_child_lem : (cs : Forest) (k : Holds ws text used (T (map_at l cs))) (p y : ℕ) → seek_node (key_stands text (str [])) 0 (nodes cs) ≡ Between p y
+    new_child_lem : (cs : Forest) (k : Holds ws text used (T (map_at l cs))) (p y : ℕ) → seek_node (key_stands text (str [])) 0 (nodes cs) ≡ between p y
         → Vacant (key_stands text (str [])) (str []) cs → Agrees (child_added ws used n p y c) T (over (map_at l) (append_empty_key E x cs before))
     unfolding child_added
     new_child_lem cs k p y e g =
@@ -257,9 +255,9 @@ module _ (ws text : List ℕ) (used : ℕ) (E : Environment) (x : Leaf) (t zs : 
       go : (y : Position) → seek_node (key_stands text (str [])) 0 (nodes cs) ≡ y → Holding f
           → Agrees (at_position (position ws text (str []) n) (λ m. appended f ws text used m c) (λ p z. child_added ws used n p z c)) (T n l a s)
           (over (map_at l) (append_empty_key E x cs before))
-      go (Found m) e ih =
+      go (Ok m) e ih =
           rw (position-is n (record_of l (map cs)) (nodes cs) s a k (str []) ∙ e)
           (again f cs n l a s m k tx lo (occupied (key_stands text (str [])) (str []) cs 0 m e (turns text t zs (str []) cs full tx)) ih)
-      go (Between p z) e ih =
+      go (Err gap) e ih =
           rw (position-is n (record_of l (map cs)) (nodes cs) s a k (str []) ∙ e)
-          (new_child_lem n l a s cs k p z e (vacant (key_stands text (str [])) (str []) cs 0 p z e (turns text t zs (str []) cs full tx)))
+          (new_child_lem n l a s cs k gap.prev gap.next e (vacant (key_stands text (str [])) (str []) cs 0 gap.prev gap.next e (turns text t zs (str []) cs full tx)))

@@ -15,20 +15,18 @@ use Rattle.decode.specs.Shown.{length_of}
 use Rattle.key.specs.Keys.{Key, int, str}
 use Rattle.key.specs.declared.KeyKind.{KeyKind}
 use Rattle.key.specs.declared.KeyKind.TheVariants.{None as NoKey, Int, String}
-use Rattle.records.specs.declared.siblings.Position.{Position}
-use Rattle.records.specs.declared.siblings.Position.TheVariants.{Found, Between}
-use Rattle.finding.specs.declared.Walk.{Walk}
+use Rattle.records.specs.declared.siblings.Gap.{Gap}
 use Rattle.records.specs.declared.store.KeyWords.{KeyWords}
 use Rattle.records.specs.declared.store.Record.{Record}
 use Rattle.row.specs.Words.{record_count, word}
 use Rattle.aids.specs.Kept.{free_from, Kept}
 use Rattle.records.specs.Records.{inserted}
 use Rattle.records.specs.Keys.{meant_key, InText}
-use Rattle.records.specs.Siblings.{position}
+use Rattle.records.specs.Siblings.{position, Position, found, between}
 use Rattle.indexed.specs.Adding.{childless}
 use Rattle.records.specs.Nodes.{Nodes, node, plug}
 use Rattle.records.specs.Holds.{Holds}
-use Rattle.finding.specs.Aids.{Gap, Aided, aids_for, Grown}
+use Rattle.finding.specs.Aids.{IsGap, Aided, aids_for, Grown}
 use Rattle.records.proofs.Rows.{length-linked, length_with_words}
 use Rattle.records.proofs.Held.{position-is}
 use Rattle.records.proofs.Seeking.{seek_node, insert_node, key_stands}
@@ -92,10 +90,10 @@ module _ {ws text : List ℕ} {used filled : ℕ} {p : List Key} {v : Node} {t :
   abbrev so_laid : LaidAll t cs
   so_laid = i.texts t (map cs) st.texts
 
-  is_occupied : (m : ℕ) → position ws text k n ≡ Found m → Occupied k cs m
+  is_occupied : (m : ℕ) → position ws text k n ≡ found m → Occupied k cs m
   is_occupied m e = occupied (key_stands text k) k cs 0 m (sought e) (turns text t st.free k cs st.full so_laid)
 
-  is_vacant : (a b : ℕ) → position ws text k n ≡ Between a b → Vacant (key_stands text k) k cs
+  is_vacant : (a b : ℕ) → position ws text k n ≡ between a b → Vacant (key_stands text k) k cs
   is_vacant a b e = vacant (key_stands text k) k cs 0 a b (sought e) (turns text t st.free k cs st.full so_laid)
 
 -- A tree stands at the record once the map is needed there.
@@ -146,7 +144,7 @@ module _ (ws text : List ℕ) (here : Here) (key : KeyKind) (raw : List ℕ) {ws
         (aided-becomes here.node map_kind (some_stored s) (at-used s.stores s.leads) s.aided)
 
   -- The key has a child.
-  enter_there : {y : Position} → y ≡ position ws1 text (meant_key key raw) here.node → {m : ℕ} → y ≡ Found m
+  enter_there : {y : Position} → y ≡ position ws1 text (meant_key key raw) here.node → {m : ℕ} → y ≡ found m
       → Promise ws1 text (Ok (record { records = here.records; bytes = here.bytes; node = m; aids = here.aids }))
   enter_there e {m} q env p v t s = go (serve map_need s.stores s.leads here er ew)
     where
@@ -180,18 +178,18 @@ module _ (ws text : List ℕ) (here : Here) (key : KeyKind) (raw : List ℕ) {ws
               ∙ ap (λ (d : Forest). made (put s.leads (map d)) (used_by here t)) (sym h.whole)
 
   pub enter-found : {ws2 : List ℕ} → Kept (free_from here.aids) ws1 ws2
-      → {y : Position} → y ≡ position ws1 text (meant_key key raw) here.node → {m : ℕ} → y ≡ Found m
+      → {y : Position} → y ≡ position ws1 text (meant_key key raw) here.node → {m : ℕ} → y ≡ found m
       → Promise ws2 text (Ok (record { records = here.records; bytes = here.bytes; node = m; aids = here.aids }))
   enter-found keep e q = performs_kept (enters k) (further k) keep (enter_there e q)
 
   -- The key is new. Finding that left words that are the same but for those behind the aids.
-  module _ {ws2 : List ℕ} (keep : Kept (free_from here.aids) ws1 ws2) {gap : Walk} where
+  module _ {ws2 : List ℕ} (keep : Kept (free_from here.aids) ws1 ws2) {gap : Gap} where
     module _ {env : Environment} {p : List Key} {v : Node} {t : List ℕ} (s : StoredAt env ws text here p v t) (cs : Forest)
         (f : expect_map s.leads.value (used_by here t) ≡ made cs (used_by here t))
         (st : Stores ws2 text here.records here.bytes (put s.leads (map cs)) t)
-        (e : position ws2 text (meant_key key raw) here.node ≡ Between gap.prev gap.cur) where
+        (e : position ws2 text (meant_key key raw) here.node ≡ between gap.prev gap.next) where
       g : Vacant (key_stands text k) k cs
-      g = is_vacant s.leads cs st k gap.prev gap.cur e
+      g = is_vacant s.leads cs st k gap.prev gap.next e
 
       abbrev grown : Forest
       grown = g.back (child here.records (row_at k (length t)) uninitialized g.later)
@@ -222,7 +220,7 @@ module _ (ws text : List ℕ) (here : Here) (key : KeyKind) (raw : List ℕ) {ws
 
       module _ {ws' : List ℕ} (room : here.records + 1 ≤ record_count ws2) (fits : here.bytes + length (key_text k) ≤ length text)
           (lie : take (length (key_text k)) (drop here.bytes text) ≡ key_text k)
-          (grows : Grown (inserted ws2 here.records here.node gap.prev gap.cur (new_record key here.bytes (length (key_text k))))
+          (grows : Grown (inserted ws2 here.records here.node gap.prev gap.next (new_record key here.bytes (length (key_text k))))
           here.aids (here.records + 1) ws') where
         makes : perform env (enter p k) v (used_by here t) ≡ made new (more (used_by here t) 1 (key_text k))
         makes = charged ∙ charge-made env 1 (key_text k) new (used_by here t) (omega (arith, records-lent)) (omega (arith, bytes-lent, st.fill))
@@ -245,7 +243,7 @@ module _ (ws text : List ℕ) (here : Here) (key : KeyKind) (raw : List ℕ) {ws
             ∙ same-words
 
         abbrev put_in : Record → List ℕ
-        put_in r = inserted ws2 here.records here.node gap.prev gap.cur r
+        put_in r = inserted ws2 here.records here.node gap.prev gap.next r
 
         written : put_in (new_record key here.bytes (length (key_text k))) ≡ put_in own_record
         written =
@@ -267,7 +265,7 @@ module _ (ws text : List ℕ) (here : Here) (key : KeyKind) (raw : List ℕ) {ws
             (subst (λ (q : List ℕ). Holds q text (here.records + 1) (rooted new)) (sym written)
             (subst (λ (q : Nodes). Holds (put_in own_record) text (here.records + 1) q) (sym shape)
             (insert-holds here.node (record_of s.leads.row (map cs)) (nodes cs) s.leads.rest s.leads.around
-            (at_map s.leads cs st k) (omega arith) own_record (key_stands text k) gap.prev gap.cur (sought s.leads cs st k e)
+            (at_map s.leads cs st k) (omega arith) own_record (key_stands text k) gap.prev gap.next (sought s.leads cs st k e)
             (key-inside k text (length t) (omega (arith, st.fill))))))
 
         abbrev answer : Result Here Refusal
@@ -309,7 +307,7 @@ module _ (ws text : List ℕ) (here : Here) (key : KeyKind) (raw : List ℕ) {ws
           (sym (charged ∙ charge-little env 1 (key_text k) new (used_by here t) (omega (arith, records-lent)) (omega (arith, bytes-lent, st.fill)))) (stopped)
       by_way (lies fits lie) (Entered.entered room grows) = entered_new room fits lie grows
 
-    pub enter_new_lem : {y : Position} → y ≡ position ws1 text (meant_key key raw) here.node → y ≡ Between gap.prev gap.cur
+    pub enter_new_lem : {y : Position} → y ≡ position ws1 text (meant_key key raw) here.node → y ≡ between gap.prev gap.next
         → {ws' : List ℕ} {d : Option ℕ} {r : Result Here Refusal} → LiesBehind text here.bytes (key_text (meant_key key raw)) d
         → Entered ws2 here gap key ws' d r → Promise ws' text r
     enter_new_lem e q {ws'} {d} {r} lie en env p v t s = go (serve map_need s.stores s.leads here er ew)
@@ -334,7 +332,7 @@ module _ {ws ws' text : List ℕ} {here : Here} (k : Kept (free_from here.aids) 
         map = word_kept k here.records few here.node kind_word r.inside (omega arith) ∙ r.map;
       }
 
-  pub gap_found : (key : Key) {y : Position} → y ≡ position ws text key here.node → {prev next : ℕ} → y ≡ Between prev next → Gap ws' here.node prev next
+  pub gap_found : (key : Key) {y : Position} → y ≡ position ws text key here.node → {prev next : ℕ} → y ≡ between prev next → IsGap ws' here.node prev next
   gap_found key e {prev} {next} q =
       gap_position ws' text key here.node prev next
       (position-kept k here.records few (ready-linked r.ready) text key here.node r.inside ∙ sym e ∙ q)
@@ -352,7 +350,7 @@ module _ {ws text text1 : List ℕ} {here : Here} (bytes : List ℕ) (e : text1 
       d env p v t (at_other s text1 (laid-stays text here.bytes bytes (at-end s) e) (ap length e ∙ length-laid text here.bytes bytes (at-end s)))
 
 -- The ways through `enter_new`.
-module _ (ws : List ℕ) (here : Here) (gap : Walk) (key : KeyKind) (d : Option ℕ) {b : Bool} (e : b ≡ leb (here.records + 1) (record_count ws)) where
+module _ (ws : List ℕ) (here : Here) (gap : Gap) (key : KeyKind) (d : Option ℕ) {b : Bool} (e : b ≡ leb (here.records + 1) (record_count ws)) where
   pub new_few : {ws' : List ℕ} → b ≡ false → Entered ws here gap key ws' d (Err TooFewRecords)
   new_few q = Entered.few (leb-false (here.records + 1) (record_count ws) (sym e ∙ q))
 
@@ -364,7 +362,7 @@ module _ (ws : List ℕ) (here : Here) (gap : Walk) (key : KeyKind) (d : Option 
     new_little {ws'} n = subst (λ (x : Option ℕ). Entered ws here gap key ws' x (Err TooLittleText)) (sym n) (Entered.little room)
 
     pub new_entered : {ws' : List ℕ} {len : ℕ} → d ≡ Some len → {new : Record} → new ≡ new_record key here.bytes len
-        → Grown (inserted ws here.records here.node gap.prev gap.cur new) here.aids (here.records + 1) ws'
+        → Grown (inserted ws here.records here.node gap.prev gap.next new) here.aids (here.records + 1) ws'
         → {aids : ℕ} → aids ≡ aids_for here.aids (here.records + 1)
         → Entered ws here gap key ws' d
         (Ok (record { records = here.records + 1; bytes = here.bytes + len; node = here.records; aids = aids }))

@@ -1,11 +1,11 @@
 -- A key among the children of a map: the child that has it, or the place of a new one; and what a rule at the entry (`at_entry`) does there.
+use Rattle.records.specs.Siblings.{found, between}
 use mathlib.Core.Path.{◌≡◌, refl, ap, sym, ◌∙◌, subst}
 use mathlib.Core.List.{List, ◌++◌}
 use Prim.Native.Nat.{ℕ, Ordering}
 use native.Mathlib.Omega.{arith}
 use Rattle.key.specs.Keys.{Key}
 use Rattle.records.specs.declared.store.Record.{Record}
-use Rattle.records.specs.declared.siblings.Position.TheVariants.{Found, Between}
 use Rattle.records.specs.Nodes.{Nodes, nil, node, Context, here, along, plug}
 use Rattle.records.proofs.Chains.{never_both}
 use Rattle.records.proofs.Seeking.{seek_node, insert_node, key_stands}
@@ -80,15 +80,15 @@ module _ (stands : Record → Ordering) (k : Key) where
   Turns none = Unit {0}
   Turns (child m l v cs) = (stands (record_of l v) ≡ opposite (compare_keys k (row_key l))) × Turns cs
 
-  pub occupied : (cs : Forest) (prev m : ℕ) → seek_node stands prev (nodes cs) ≡ Found m → Turns cs → Occupied k cs m
+  pub occupied : (cs : Forest) (prev m : ℕ) → seek_node stands prev (nodes cs) ≡ found m → Turns cs → Occupied k cs m
   occupied none prev m e w = absurd (let z : ◌≡◌ {A = ℕ} 0 1 = cc in omega arith)
   occupied (child n l v cs) prev m e w = go (compare_keys k (row_key l)) refl (occupied cs n m)
     where
-      go : (z : Ordering) → compare_keys k (row_key l) ≡ z → (seek_node stands n (nodes cs) ≡ Found m → Turns cs → Occupied k cs m)
+      go : (z : Ordering) → compare_keys k (row_key l) ≡ z → (seek_node stands n (nodes cs) ≡ found m → Turns cs → Occupied k cs m)
           → Occupied k (child n l v cs) m
       go Ordering.lt q ih = never_both m prev n (sym (rw (w.0, q) at e))
       go Ordering.eq q ih =
-          let f : Found n ≡ Found m = rw (w.0, q) at e in
+          let f : found n ≡ found m = rw (w.0, q) at e in
           let g : n ≡ m = cc in
           subst (λ (t : ℕ). Occupied k (child n l v cs) t) g (occupied_here k n l v cs q)
       go Ordering.gt q ih = occupied_later k n l v cs m q (ih (rw (w.0, q) at e) w.1)
@@ -101,7 +101,7 @@ module _ (stands : Record → Ordering) (k : Key) where
     pub is : (u : ℕ) (l : Row) (w : Value) → below w ≡ nil → nodes (back (child u l w later)) ≡ insert_node stands u (record_of l w) (nodes cs)
     pub entered : (u o : ℕ) (w : Value) → Occupied k (back (child u (row_at k o) w later)) u
 
-  pub vacant : (cs : Forest) (prev p x : ℕ) → seek_node stands prev (nodes cs) ≡ Between p x → Turns cs → Vacant cs
+  pub vacant : (cs : Forest) (prev p x : ℕ) → seek_node stands prev (nodes cs) ≡ between p x → Turns cs → Vacant cs
   vacant none prev p x e w =
       record {
         later = none;
@@ -112,7 +112,7 @@ module _ (stands : Record → Ordering) (k : Key) where
       }
   vacant (child n l v cs) prev p x e w = go (compare_keys k (row_key l)) refl (vacant cs n p x)
     where
-      go : (z : Ordering) → compare_keys k (row_key l) ≡ z → (seek_node stands n (nodes cs) ≡ Between p x → Turns cs → Vacant cs)
+      go : (z : Ordering) → compare_keys k (row_key l) ≡ z → (seek_node stands n (nodes cs) ≡ between p x → Turns cs → Vacant cs)
           → Vacant (child n l v cs)
       go Ordering.lt q ih =
           record {

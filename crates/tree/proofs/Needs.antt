@@ -1,7 +1,6 @@
 -- A map or a sequence needed at the record that a path leads to: one law for both.
 use Rattle.std.specs.Prelude.{Result, Ok, Err}
 use mathlib.Core.Path.{◌≡◌, refl, ap, ap₂, sym, ◌∙◌, subst}
-use mathlib.Core.Logic.{◌≢◌}
 use mathlib.Core.Bool.{Bool, true, false, cond}
 use mathlib.Core.List.{List}
 use Prim.Native.Nat.{ℕ, ◌<◌}
@@ -11,7 +10,7 @@ use lib.Dec.{eqb}
 use borrow.Author.Tests.{eq-eqb, ne_eqb}
 use Rattle.key.specs.Keys.{Key}
 use Rattle.records.specs.declared.store.ValueWords.{ValueWords}
-use Rattle.row.specs.Row.{kind_word, uninitialized_kind, map_kind, sequence_kind, string_kind}
+use Rattle.row.specs.Row.{kind_word, uninitialized_kind, map_kind, sequence_kind}
 use Rattle.row.specs.Words.{word}
 use Rattle.records.specs.Records.{with_value}
 use Rattle.indexed.specs.Adding.{childless}

@@ -19,8 +19,7 @@ use Rattle.key.specs.declared.KeyKind.TheVariants.{None as NoKey, Int, String}
 use Rattle.row.specs.Words.{text_part}
 use Rattle.tags.specs.Tags.{string_tag, tag_of, text_of, IntFits, Sought}
 use Rattle.records.specs.Keys.{meant_key, sought_key, int_of}
-use Rattle.records.specs.declared.siblings.Position.{Position}
-use Rattle.records.specs.Siblings.{position, WellFormed, ForSome}
+use Rattle.records.specs.Siblings.{position, WellFormed, ForSome, Position}
 use Rattle.finding.specs.Finding.{tagged_key, Asked}
 use Rattle.finding.proofs.Finds.{ready-formed}
 use Rattle.reading.specs.Adding.{key_text}

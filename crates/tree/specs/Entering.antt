@@ -2,7 +2,7 @@
 use Rattle.std.specs.Prelude.{◌≡◌, cond, List, ℕ, ◌+◌, ◌≤◌, ◌<◌, eqb, Option, Some, None, Result, Ok, Err}
 use Rattle.key.specs.declared.KeyKind.{KeyKind}
 use Rattle.key.specs.declared.KeyKind.TheVariants.{None as NoKey, Int, String}
-use Rattle.finding.specs.declared.Walk.{Walk}
+use Rattle.records.specs.declared.siblings.Gap.{Gap}
 use Rattle.records.specs.declared.store.KeyWords.{KeyWords}
 use Rattle.records.specs.declared.store.Record.{Record}
 use Rattle.row.specs.Row.{kind_word, uninitialized_kind, map_kind, int_key_kind, string_key_kind}
@@ -35,13 +35,13 @@ pub record MapReady (ws text : List ℕ) (here : Here) : Type 0 where
 
 -- What entering a new key leaves and answers, by its three ways: too few records, too little text, or a child,
 -- Uninitialized, put in the gap, whose key's text is laid. Records come first: where both are short it is 14.
-pub data Entered (ws : List ℕ) (here : Here) (gap : Walk) (key : KeyKind) (ws' : List ℕ) :
+pub data Entered (ws : List ℕ) (here : Here) (gap : Gap) (key : KeyKind) (ws' : List ℕ) :
     Option ℕ → Result Here Refusal → Type 0 where
   few : {laid : Option ℕ} → record_count ws < here.records + 1
       → Entered ws here gap key ws' laid (Err TooFewRecords)
   little : here.records + 1 ≤ record_count ws → Entered ws here gap key ws' None (Err TooLittleText)
   entered : {len : ℕ} → here.records + 1 ≤ record_count ws
-      → Grown (inserted ws here.records here.node gap.prev gap.cur (new_record key here.bytes len))
+      → Grown (inserted ws here.records here.node gap.prev gap.next (new_record key here.bytes len))
       here.aids (here.records + 1) ws'
       → Entered ws here gap key ws' (Some len)
       (Ok

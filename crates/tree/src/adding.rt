@@ -8,7 +8,6 @@ ghost use Rattle.tree.specs.Commands.{Performs, appends, stays, Countable, AddsA
 
 use crate::{Here, laying};
 use indexed::appending;
-use indexed::appending::Appended;
 use reading::LeafKind;
 use records::store::ValueWords;
 use refusals::Refusal;
@@ -69,8 +68,6 @@ pub fn append_value(
 {
     let laid = laying::lay_value(kind, value, text, here.bytes as usize);
     let new = value_words(kind, here.bytes, laid.unwrap_or(0) as u32);
-    match appending::add(words, text, here.among(), new) {
-        Appended::Used(records) => answer(here, laid, records),
-        Appended::TooFew => Err(Refusal::TooFewRecords),
-    }
+    let records = appending::add(words, text, here.among(), new).ok_or(Refusal::TooFewRecords)?;
+    answer(here, laid, records)
 }

@@ -4,7 +4,7 @@ ghost use Rattle.decode.specs.Shown.{length_of};
 ghost use Rattle.records.specs.Keys.{meant_key};
 ghost use Rattle.aids.specs.Kept.{free_from, Kept};
 ghost use Rattle.records.specs.Siblings.{position};
-ghost use Rattle.finding.specs.Aids.{Gap};
+ghost use Rattle.finding.specs.Aids.{IsGap};
 ghost use Rattle.reading.specs.Adding.{key_text};
 ghost use Rattle.tree.specs.Laying.{LiesBehind};
 ghost use Rattle.tree.specs.Entering.{new_key_words, new_record, MapReady, Entered};
@@ -12,10 +12,9 @@ ghost use Rattle.tree.specs.Stored.{SomeStoredAt};
 ghost use Rattle.tree.specs.Commands.{Performs, enters, further, Countable, AddsAtMost};
 
 use crate::{Here, laying, needing};
-use finding::Walk;
 use indexed::growing;
 use key::KeyKind;
-use records::siblings::Position;
+use records::siblings::{Gap, Position};
 use records::store::{KeyWords, Record, ValueWords};
 use records::{keys, siblings};
 use refusals::Refusal;
@@ -62,9 +61,8 @@ fn find_key(
     let among = here.among();
     let start = here.bytes as usize;
     let name = &text[start..start + len];
-    let again = finding::find_again(words, text, among, key, name);
-    if again != 0 {
-        return Position::Found(again);
+    if let Some(again) = finding::find_again(words, text, among, key, name) {
+        return Ok(again);
     }
     let tag = keys::tag_of(key, text, start, len);
     finding::find(words, text, among, tag, name)
@@ -90,11 +88,11 @@ fn enter_new(
     words: &mut [u32],
     text: &[u8],
     here: Here,
-    gap: Walk,
+    gap: Gap,
     key: KeyKind,
     laid: Option<usize>,
 ) -> Result<Here, Refusal>
-    requires ready { MapReady words.old text.now here × Gap words.old here.node gap.prev gap.cur }
+    requires ready { MapReady words.old text.now here × IsGap words.old here.node gap.prev gap.next }
     requires countable { Countable here 2 (length_of laid) × (here.bytes + length_of laid ≤ length text.now) }
     ensures { Entered words.old here gap key words.new laid result }
 {
@@ -131,10 +129,7 @@ pub fn enter(
     needing::expect_map(words, here)?;
     let laid = laying::lay_key(key, raw, text, here.bytes as usize);
     match find_key(words, text, here, key, raw, laid) {
-        Position::Found(node) => Ok(Here { node, ..here }),
-        Position::Between(prev, next) => {
-            let gap = Walk { prev, cur: next };
-            enter_new(words, text, here, gap, key, laid)
-        }
+        Ok(node) => Ok(Here { node, ..here }),
+        Err(gap) => enter_new(words, text, here, gap, key, laid),
     }
 }

@@ -5,12 +5,14 @@ use Prim.Native.Nat.{ℕ}
 use Rattle.reading.specs.Leaves.{leaf_of}
 use Rattle.reading.specs.Adding.{leaf_text}
 use Rattle.tree.specs.NewValues.{new_value_words}
-use Rattle.tree.proofs.StoredTrees.{stand_used, stand_end}
+use Rattle.tree.proofs.StoredTrees.{stand_used}
 use Rattle.tree.proofs.Leaves.{ready-stored}
 use Rattle.tree.proofs.Bounds.{leaf_laid_len, append_modest}
 use Rattle.tree.proofs.AppendWays.{append-enough, append_too_few}
 use Rattle.tree.proofs.EnterWays.{laid-standing}
-use borrow.Author.Rules.{rules}
+use Rattle.std.proofs.Common.{◌≡◌, Some, None, rules}
+use Rattle.std.proofs.lemmas.Result.{err_from_is_err_and}
+use Rattle.refusals.specs.declared.Refusal.TheVariants.{TooFewRecords}
 use Rattle.tree.proofs.adding.append_value.Goals as goal
 
 pub overflow_cast-unwrap_or : goal.overflow_cast-unwrap_or
@@ -41,8 +43,9 @@ answer-requires c =
       c.requires.countable.1,
     )
 
-pub returns-in-Used : goal.returns-in-Used
-returns-in-Used c =
+pub returns : goal.returns
+returns c =
+    let e : c.add.result ≡ Some c.in_ok-records.records = grind arith in
     let does = append-enough c.args.words.now
     c.args.text.now c.args.here
     c.args.kind c.args.value.now
@@ -52,15 +55,19 @@ returns-in-Used c =
     (rw c.among.ensures at c.add.ensures)
     (c.value_words-new.ensures ∙ ap
     (λ (n : ℕ). new_value_words c.args.kind
-    c.args.here.bytes n) c.unwrap_or.ensures) c.in-Used.is (search rules) in rw c.answer.ensures (record {
+    c.args.here.bytes n) c.unwrap_or.ensures) e (search rules) in rw c.answer.ensures (record {
       performs = does;
       adds = append_modest
           c.requires.stored c.args.kind
           c.args.value.now does;
     })
 
-pub returns-in-TooFew-clause-performs : goal.returns-in-TooFew-clause-performs
-returns-in-TooFew-clause-performs c =
-    append_too_few c.args.words.now c.args.text.now c.args.here c.args.kind c.args.value.now
+pub returns-in_err-records-clause-performs : goal.returns-in_err-records-clause-performs
+returns-in_err-records-clause-performs c =
+    let e : c.add.result ≡ None = grind arith in
+    let p = err_from_is_err_and c.from_residual.result c.from_residual.ensures.1 in
+    let q : c.in_err-records.field-0.0 ≡ TooFewRecords = grind arith in
+    rw (p.1, p.2, q)
+    (    append_too_few c.args.words.now c.args.text.now c.args.here c.args.kind c.args.value.now
     c.value_words-new.result c.lay_value-laid.ensures.answer c.lay_value-laid.ensures.output (rw c.among.ensures at c.add.ensures)
-    (c.value_words-new.ensures ∙ ap (λ (n : ℕ). new_value_words c.args.kind c.args.here.bytes n) c.unwrap_or.ensures) c.in-TooFew.is
+    (c.value_words-new.ensures ∙ ap (λ (n : ℕ). new_value_words c.args.kind c.args.here.bytes n) c.unwrap_or.ensures) e)

@@ -44,7 +44,7 @@ enter_new-requires c =
     let ready = map-ready c.requires.stored c.expect_map.ensures.words c.in_ok-expect_map.was stands in record {
       ready = (
         ready-found c.find_key.ensures.kept ready,
-        gap_found c.find_key.ensures.kept ready key c.find_key.ensures.position c.in-Between.is,
+        gap_found c.find_key.ensures.kept ready key c.find_key.ensures.position c.in-Err.is,
       );
       countable = (
         (
@@ -61,23 +61,23 @@ enter_new-requires c =
       );
     }
 
-pub returns-in-Found-clause-performs : goal.returns-in-Found-clause-performs
-returns-in-Found-clause-performs c =
+pub returns-in-Ok-clause-performs : goal.returns-in-Ok-clause-performs
+returns-in-Ok-clause-performs c =
     let key = meant_key c.args.key c.args.raw.now in
     from-before (key_text key) c.lay_key-laid.ensures.output (enters key) (further key)
     (enter-found c.args.words.now c.lay_key-laid.new.text c.args.here c.args.key c.args.raw.now
     c.expect_map.ensures.words.0
     c.expect_map.ensures.words.1 c.in_ok-expect_map.was c.find_key.ensures.kept
-    c.find_key.ensures.position c.in-Found.is)
+    c.find_key.ensures.position c.in-Ok.is)
 
-pub returns-in-Between : goal.returns-in-Between
-returns-in-Between c =
+pub returns-in-Err : goal.returns-in-Err
+returns-in-Err c =
     let key = meant_key c.args.key c.args.raw.now in
     let does = from-before (key_text key) c.lay_key-laid.ensures.output (enters key) (further key)
     (enter_new_lem c.args.words.now c.lay_key-laid.new.text c.args.here c.args.key c.args.raw.now
     c.expect_map.ensures.words.0
     c.expect_map.ensures.words.1 c.in_ok-expect_map.was c.find_key.ensures.kept
-    c.find_key.ensures.position c.in-Between.is
+    c.find_key.ensures.position c.in-Err.is
     (laid-behind c.args.text.now c.args.here.bytes (key_text key) (stand_end c.requires.stored) c.lay_key-laid.ensures.output
     c.lay_key-laid.ensures.answer)
     c.enter_new.ensures) in record { performs = does; adds = enter_modest c.requires.stored c.args.key c.args.raw.now does }
