@@ -21,7 +21,7 @@ ghost use Rattle.tree.specs.Stored.{cleared_from};
 ghost use Rattle.parse.specs.Outcomes.{outcome_of};
 ghost use Rattle.parse.specs.Begun.{Begun};
 
-use clearing::{clear_text, clear_words};
+use clearing::clear;
 use config::Config;
 use indexed::growing;
 use pairs::parse_pairs;
@@ -68,8 +68,8 @@ fn clear_unused(words: &mut [u32], text: &mut [u8], used: Used)
     ensures { (words.new ≡ cleared_from (used.records * record_width) words.old)
         × (text.new ≡ cleared_from used.bytes text.old) }
 {
-    clear_words(&mut words[used.records as usize * row::WIDTH..]);
-    clear_text(&mut text[used.bytes as usize..]);
+    clear(&mut words[used.records as usize * row::WIDTH..]);
+    clear(&mut text[used.bytes as usize..]);
 }
 
 // Reads an input that isn't empty, from an Uninitialized root on. What isn't used is cleared at the end, which after a
@@ -102,8 +102,8 @@ fn parse_some(
             Ok(used)
         }
         Err(refused) => {
-            clear_words(words);
-            clear_text(text);
+            clear(words);
+            clear(text);
             Err(refused)
         }
     }

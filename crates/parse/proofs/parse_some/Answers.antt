@@ -29,5 +29,5 @@ returns-in-Err c =
     some-refused c.args.config c.args.input.now c.args.words.now c.args.text.now c.requires.1 c.requires.2
     c.begin-aids.ensures c.requires.0 _ _
     c.parse_pairs.auto.words c.parse_pairs.auto.text c.parse_pairs.ensures
-    c.in-Err.is c.clear_words.ensures
-    c.clear_text.ensures
+    c.in-Err.is c.clear.ensures
+    c.clear-in-Err.ensures
