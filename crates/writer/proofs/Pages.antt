@@ -5,10 +5,15 @@ use mathlib.Core.List.{List, [], ◌∷◌, ◌++◌, append-nil, append_assoc}
 use Prim.Native.Nat.{ℕ, suc, ◌+◌, ◌-◌, ◌≤◌, ◌<◌}
 use native.Mathlib.Numerals.{add-one}
 use native.Mathlib.Omega.{arith}
-use borrow.Author.Tests.{lt-ltb, le-ltb, le-leb, lt-leb, eq-eqb, ne_eqb}
+use borrow.Author.Tests.{ltb-true, ltb-false, lt-ltb, le-ltb, le-leb, lt-leb, eq-eqb, ne_eqb}
 use lib.Dec.{ltb, eqb}
-use lib.ListN.{length, take, drop, get_or, set, length-set, take-append-drop, drop_of_length-le, get_or-append}
-use lib.Seq.{take-nil, take_all, take-suc-set, drop-set-lt, set_out}
+use lib.ListN.{length, take, drop, get_or, get_or-eq_default, set, length-set, length-drop, take-append-drop, drop_of_length-le, get_or-append}
+use Rattle.std.specs.List.{copy_within}
+use Rattle.std.specs.Prelude.{Option, Some, None, is_some, IfSome, unwrap_or}
+use Rattle.std.specs.Option.{option_copied}
+use Rattle.std.proofs.lemmas.List.{get_or_read}
+use denote.Ref.{Bor}
+use lib.Seq.{length-take-le, take-nil, take_all, take-suc-set, drop-set-lt, set_out}
 use Rattle.laws.proofs.Cases.{by_test, below}
 use Rattle.ascii.specs.Bytes.{ampersand}
 use Rattle.config.specs.Limits.{max_len}
@@ -119,6 +124,26 @@ put-from (b ∷ s) out at h =
     let same : from s (set out at b) (at + 1) ≡ from (b ∷ s) out at =
     ap (λ o. from s o (at + 1)) (set_out out at b g) ∙ from_past s out (at + 1) (omega arith) ∙ sym (from_past (b ∷ s) out at g) in
     step ∙ ap₂ page same e)
+
+-- Bytes of the output stored once more behind it, where there is room.
+pub puts_again : (start len : ℕ) (out : List ℕ) (at : ℕ) → at + len ≤ length out → at + len ≤ max_len → start + len ≤ at
+    → Puts (take len (drop start out)) (page out at) (page (copy_within out start (start + len) at) (at + len))
+puts_again start len out at fits within before =
+    let s = take len (drop start out) in
+    let n : start + len - start ≡ len = omega arith in
+    let long : length s ≡ len = length-take-le len (drop start out) (omega (arith, length-drop start out)) in
+    let all : take (length out - at) s ≡ s = take_all (length out - at) s (omega (arith, long)) in
+    let made : put (page out at) s ≡ page (from s out at) (at + length s) = put-from s out at (omega (arith, long)) in
+    let laid : from s out at ≡ copy_within out start (start + len) at =
+    ap₂ (λ x k. take at out ++ (x ++ drop (at + k) out)) all long ∙ ap (λ k. take at out ++ (take k (drop start out) ++ drop (at + k) out)) (sym n)
+    ∙ sym (append_assoc (take at out) (take (start + len - start) (drop start out)) (drop (at + (start + len - start)) out)) in
+    record { puts = sym (made ∙ ap₂ page laid (ap (λ k. at + k) long)) }
+
+-- An element, or 0 past the end.
+pub element_or_0 : (s : List ℕ) (i : ℕ) (r : Option (Bor ℕ)) → is_some r ≡ ltb i (length s) → IfSome r (λ x. x.now ≡ get_or s i x.now)
+    → unwrap_or (option_copied r) 0 ≡ get_or s i 0
+element_or_0 s i (Some x) e h = get_or_read s i x.now (ltb-true i (length s) (sym e)) h 0
+element_or_0 s i None e h = sym (get_or-eq_default s 0 (ltb-false i (length s) (sym e)))
 
 -- The place where the limit is passed.
 put-over : (s out : List ℕ) (at : ℕ) → at ≤ suc max_len → max_len < at + length s → (put (page out at) s).at ≡ suc max_len

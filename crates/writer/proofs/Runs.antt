@@ -1,16 +1,15 @@
 -- Runs of bytes that are written at once: the place behind them, what stands in them, and how they are stored.
 use mathlib.Core.Path.{◌≡◌, refl, sym, ap, ◌∙◌}
-use mathlib.Core.Bool.{Bool, true, false, cond, ◌||◌, ◌&&◌}
+use mathlib.Core.Bool.{Bool, true, false, cond, ◌||◌}
 use mathlib.Core.List.{List, [], ◌∷◌, ◌++◌}
 use Prim.Native.Nat.{ℕ, zero, suc, ◌+◌, ◌-◌, ◌*◌, ◌/◌, ◌%◌, ◌≤◌, ◌<◌}
 use native.Mathlib.Omega.{arith}
-use borrow.Author.Tests.{lt-ltb, le-ltb, le-leb, lt-leb, leb-true, ne_eqb}
-use mir.Val.{bool_byte}
+use borrow.Author.Tests.{lt-ltb, le-ltb, leb-true, ne_eqb}
 use lib.Dec.{eqb, leb}
-use lib.ListN.{length, take, drop, get_or, set, length-append, length-set, drop_of_length-le}
-use lib.Seq.{set_out, get_or-set_other}
+use Rattle.std.specs.List.{fold, filter}
+use lib.ListN.{length, drop, get_or, set, length-append, length-set}
+use lib.Seq.{set_out}
 use Rattle.laws.proofs.Cases.{split, below, true-false, halves}
-use Rattle.laws.proofs.Lists.{drop_1}
 use Rattle.ascii.specs.Bytes.{percent, plus, space, ampersand, equals, opening, closing}
 use Rattle.config.specs.Limits.{max_len}
 use Rattle.output.specs.Numbers.{hex_digit}
@@ -58,37 +57,13 @@ put_unseen (b ∷ s) out at h =
 pub puts_unseen : (s out : List ℕ) (at : ℕ) {n r : ℕ} → length out ≤ at → n ≡ length s → r ≡ advanced at n → Puts s (page out at) (page out r)
 puts_unseen s out at h e f = record { puts = ap (page out) (f ∙ ap (advanced at) e) ∙ sym (put_unseen s out at h) }
 
--- Whether there is room, by the tests one after the other; and that there is.
-module _ (len size at : ℕ) where
-  and-false : (a : Bool) → false ≡ a && false
-  and-false true = refl
-  and-false false = refl
-
-  pub room_short : size < at + len → false ≡ has_room len size at
-  room_short h = sym (rw (lt-leb (at + len) size h))
-
-  pub room-past : max_len < at → false ≡ has_room len size at
-  room-past h = rw (lt-leb (at + len) max_len (omega arith)) (and-false (leb (at + len) size))
-
-  pub room-left : at ≤ max_len → at + len ≤ size → leb len (max_len - at) ≡ has_room len size at
-  room-left h g =
-      rw (le-leb (at + len) size g)
-      (below (max_len - at) len (λ k. lt-leb len (max_len - at) k ∙ sym (lt-leb (at + len) max_len (omega arith)))
-      (λ k. le-leb len (max_len - at) k ∙ sym (le-leb (at + len) max_len (omega arith))))
-
+-- There is room, if the test says so.
 pub room : {len at : ℕ} {r : Bool} (out : List ℕ) → r ≡ has_room len (length out) at → r ≡ true → Room len out at
 room {len} {at} out told t =
     let h = halves (leb (at + len) (length out)) (leb (at + len) max_len) (sym told ∙ t) in
     record { fits = leb-true (at + len) (length out) h.0; within = leb-true (at + len) max_len h.1 }
 
 -- Room for bytes once more: they stand before the place, and there is room for so many.
-module _ (start end size at : ℕ) where
-  pub room_ahead : at < end → false ≡ has_room_again start end size at
-  room_ahead h = sym (rw (lt-leb end at h))
-
-  pub room-behind : {r : Bool} → end ≤ at → r ≡ has_room (end - start) size at → r ≡ has_room_again start end size at
-  room-behind h e = e ∙ sym (rw (le-leb end at h))
-
 module _ (start end : ℕ) {at : ℕ} {r : Bool} (out : List ℕ) (told : r ≡ has_room_again start end (length out) at) (t : r ≡ true) where
   pub again-before : end ≤ at
   again-before = leb-true end at (halves (leb end at) (has_room (end - start) (length out) at) (sym told ∙ t)).0
@@ -96,34 +71,20 @@ module _ (start end : ℕ) {at : ℕ} {r : Bool} (out : List ℕ) (told : r ≡ 
   pub again-room : Room (end - start) out at
   again-room = room out refl (halves (leb end at) (has_room (end - start) (length out) at) (sym told ∙ t)).1
 
--- Two bytes sought: what was found so far, and what stands from i on, tell what stands in all.
-pub record Seeking (x y : ℕ) (s : List ℕ) (hit : Bool) (i : ℕ) : Type 0 where
-  pub to_come : hit || any_of x y (drop i s) ≡ any_of x y s
-
-pub seeking_start : (x y : ℕ) (s : List ℕ) → Seeking x y s false 0
-seeking_start x y s = record { to_come = refl }
-
-pub seeking_more : {x y : ℕ} {s : List ℕ} {hit : Bool} {i : ℕ} → Seeking x y s hit i → i < length s
-    → Seeking x y s ((hit || eqb (get_or s i 0) x) || eqb (get_or s i 0) y) (i + 1)
+-- Two bytes sought, with what was found so far.
+pub fold-any_of : (x y : ℕ) (hit : Bool) (s : List ℕ) → fold (λ h b. (h || eqb b x) || eqb b y) hit s ≡ hit || any_of x y s
 unfolding any_of
-seeking_more {x} {y} {s} {hit} {i} v h =
-    record {
-      to_come =
-          regroup hit (eqb (get_or s i 0) x) (eqb (get_or s i 0) y) (any_of x y (drop (i + 1) s)) ∙ sym (ap (λ t. hit || any_of x y t) (drop_1 s i h))
-          ∙ v.to_come;
-    }
-  where
-    regroup : (h a b t : Bool) → ((h || a) || b) || t ≡ h || ((a || b) || t)
-    regroup true a b t = refl
-    regroup false a b t = refl
-
-pub seeking_done : {x y : ℕ} {s : List ℕ} {hit : Bool} {i : ℕ} → Seeking x y s hit i → length s ≤ i → hit ≡ any_of x y s
-unfolding any_of
-seeking_done {x} {y} {s} {hit} {i} v h = nothing_more hit ∙ sym (ap (λ t. hit || any_of x y t) (drop_of_length-le s h)) ∙ v.to_come
+fold-any_of x y hit [] = nothing_more hit
   where
     nothing_more : (h : Bool) → h ≡ h || false
     nothing_more true = refl
     nothing_more false = refl
+fold-any_of x y hit (b ∷ s) =
+    fold-any_of x y ((hit || eqb b x) || eqb b y) s ∙ regroup hit (eqb b x) (eqb b y) (any_of x y s)
+  where
+    regroup : (h a b t : Bool) → ((h || a) || b) || t ≡ h || ((a || b) || t)
+    regroup true a b t = refl
+    regroup false a b t = refl
 
 -- The reserved bytes sought two by two.
 pub any_by_two : (s : List ℕ) → (any_of percent plus s || any_of ampersand equals s) || any_of opening closing s ≡ any_reserved s
@@ -160,42 +121,16 @@ no_reserved [] i n h = absurd (omega arith)
 no_reserved (b ∷ s) zero n h = (neither (is_reserved b) (any_reserved s) n).0
 no_reserved (b ∷ s) (suc i) n h = no_reserved s i (neither (is_reserved b) (any_reserved s) n).1 (omega arith)
 
--- Reserved bytes counted: those before i, and those from i on.
-pub record Counting (s : List ℕ) (n i : ℕ) : Type 0 where
-  pub to_come : n + count_reserved (drop i s) ≡ count_reserved s
-  pub below-index : n ≤ i
-
-pub counting_start : (s : List ℕ) → Counting s 0 0
-counting_start s = record { to_come = omega arith; below-index = omega arith }
-
-pub count-step : (b : Bool) → bool_byte b ≤ 1
-count-step true = omega arith
-count-step false = omega arith
-
-pub counting_more : {s : List ℕ} {n i : ℕ} {b : Bool} → Counting s n i → i < length s → b ≡ is_reserved (get_or s i 0) → Counting s (n + bool_byte b) (i + 1)
+-- Reserved bytes counted.
+pub filter-reserved : (s : List ℕ) → length (filter is_reserved s) ≡ count_reserved s
 unfolding count_reserved
-counting_more {s} {n} {i} {b} v h e =
-    record {
-      to_come =
-          let same : bool_byte b ≡ cond (is_reserved (get_or s i 0)) 1 0 = as_number b ∙ ap (λ t. cond t 1 0) e in
-          let split : count_reserved (drop i s) ≡ cond (is_reserved (get_or s i 0)) 1 0 + count_reserved (drop (i + 1) s) = ap count_reserved (drop_1 s i h) in
-          regroup (bool_byte b) (count_reserved (drop (i + 1) s)) (ap (λ m. m + count_reserved (drop (i + 1) s)) same ∙ sym split) v.to_come;
-      below-index = omega (arith, v.below-index, count-step b);
-    }
+filter-reserved [] = refl
+filter-reserved (b ∷ s) = go (is_reserved b) (filter-reserved s)
   where
-    as_number : (b : Bool) → bool_byte b ≡ cond b 1 0
-    as_number true = refl
-    as_number false = refl
-
-    regroup : (m k : ℕ) {d t : ℕ} → m + k ≡ d → n + d ≡ t → n + m + k ≡ t
-    regroup m k p q = omega arith
-
-pub counting_done : {s : List ℕ} {n i : ℕ} → Counting s n i → length s ≤ i → n ≡ count_reserved s
-unfolding count_reserved
-counting_done {s} {n} {i} v h =
-    let e : count_reserved (drop i s) ≡ 0 = ap count_reserved (drop_of_length-le s h) in
-    let f : n ≡ n + 0 = omega arith in
-    f ∙ ap (λ m. n + m) (sym e) ∙ v.to_come
+    go : (t : Bool) → length (filter is_reserved s) ≡ count_reserved s
+        → length (cond t (b ∷ filter is_reserved s) (filter is_reserved s)) ≡ cond t 1 0 + count_reserved s
+    go true e = omega arith
+    go false e = omega arith
 
 -- A reserved byte is three bytes when escaped, any other is one.
 reserved_not-space : (b : ℕ) → is_reserved b ≡ true → b ≡ space → ⊥
@@ -321,38 +256,3 @@ laying_more {bytes} {out₀} {out} {out₁} {at} {next} {next₁} {i} v h f g =
 pub laying_done : {bytes out₀ out : List ℕ} {at next i : ℕ} → Laying bytes out₀ out at next i → length bytes ≤ i
     → Puts (escaped bytes) (page out₀ at) (page out next)
 laying_done {bytes} {i = i} v h = putting_done v.putting (escaped-done bytes i h)
-
--- Bytes of the output stored once more behind it: what stands before the place stays, so they are those that stood there at first.
-pub record Again (start len : ℕ) (out₀ out : List ℕ) (at i : ℕ) : Type 0 where
-  pub putting : Putting (take (len - i) (drop (start + i) out₀)) (take len (drop start out₀)) out₀ out at (at + i)
-  pub kept : (j : ℕ) → j < at → get_or out j 0 ≡ get_or out₀ j 0
-
-pub again-start : (start len : ℕ) (out : List ℕ) (at : ℕ) → Again start len out out at 0
-again-start start len out at =
-    let e : start + 0 ≡ start = omega arith in
-    let f : len - 0 ≡ len = omega arith in
-    record { putting = rw (e, f) (putting_begin (take len (drop start out)) out at); kept = λ j h. refl }
-
-pub again-more : {start len : ℕ} {out₀ out : List ℕ} {at i : ℕ} → Again start len out₀ out at i → Room len out₀ at × (start + len ≤ at) → i < len
-    → Again start len out₀ (set out (at + i) (get_or out (start + i) 0)) at (i + 1)
-again-more {start} {len} {out₀} {out} {at} {i} v r h =
-    record {
-      putting = stored_more i v.putting
-          (ap (λ n. take n (drop (start + i) out₀)) up
-          ∙ ap (take (suc (len - (i + 1)))) (drop_1 out₀ (start + i) (omega (arith, r.0.fits, r.1)))
-          ∙ ap (λ n. get_or out₀ (start + i) 0 ∷ take (len - (i + 1)) (drop n out₀)) on
-          ∙ ap (λ b. b ∷ take (len - (i + 1)) (drop (start + (i + 1)) out₀)) (sym (v.kept (start + i) (omega (arith, r.1)))))
-          (omega (arith, r.0.within));
-      kept = λ j k. get_or-set_other out (at + i) j (get_or out (start + i) 0) 0 (λ e. omega arith) ∙ v.kept j k;
-    }
-  where
-    up : len - i ≡ suc (len - (i + 1))
-    up = omega arith
-
-    on : start + i + 1 ≡ start + (i + 1)
-    on = omega arith
-
-pub again-done : {start len : ℕ} {out₀ out : List ℕ} {at i : ℕ} → Again start len out₀ out at i → len ≤ i
-    → Puts (take len (drop start out₀)) (page out₀ at) (page out (at + i))
-again-done {start} {len} {out₀} {out} {at} {i} v h =
-    let e : len - i ≡ 0 = omega arith in putting_done v.putting (ap (λ n. take n (drop (start + i) out₀)) e)

@@ -51,9 +51,6 @@ moves_empty out place e =
     record { opens = λ lent s key o. record { page = o.page; stands = o.stands }; position = λ key. refl } in
     subst (λ x. Moves under_empty place x out out) (sym e) f
 
-pub moves_not : (out : List ℕ) (place : Place) → Moves (λ p. p) place place out out
-moves_not out place = record { opens = λ lent s key o. o; position = λ key. refl }
-
 -- The elements' `[]`.
 pub moves_sequence : {out out₁ : List ℕ} {end : ℕ} (place : Place)
     → Puts (cond place.repeats [] (opening ∷ closing ∷ [])) (page out place.end) (page out₁ end)
@@ -90,15 +87,6 @@ inner_at-level kind p = split (eqb kind sequence_kind) (λ t. rw t (omega arith)
 pub inner_level : {place place' : Place} {out out' : List ℕ} (kind : ℕ) → Moves (inner_at kind) place place' out out' → place'.level ≤ place.level + 1
 inner_level {place} kind f =
     omega (arith, ap (λ (q : Position). q.level) (f.position []), inner_at-level kind (position_of [] place))
-
--- Where the children of a Sequence or of a Map stand.
-pub moves_inner_sequence : {place place' : Place} {out out' : List ℕ} (kind : ℕ) → kind ≡ sequence_kind → Moves in_sequence place place' out out'
-    → Moves (inner_at kind) place place' out out'
-moves_inner_sequence {place} {place'} {out} {out'} kind e f = subst (λ k. Moves (inner_at k) place place' out out') (sym e) f
-
-pub moves_inner_map : {out : List ℕ} {place : Place} (kind : ℕ) → (kind ≡ sequence_kind → ⊥) → Moves (inner_at kind) place place out out
-moves_inner_map {out} {place} kind h =
-    subst (λ b. Moves (λ p. cond b (in_sequence p) p) place place out out) (sym (ne_eqb kind sequence_kind h)) (moves_not out place)
 
 -- The value of a record, by its kind. Without steps it is none.
 module _ (words text : List ℕ) where

@@ -37,26 +37,11 @@ pub(crate) fn put(byte: u8, out: &mut [u8], at: usize) -> usize
     at + 1
 }
 
-// Whether a byte must be escaped. One test and return after the other is compiled to a look at one bit.
+// Whether a byte must be escaped.
 fn is_reserved(b: u8) -> bool
     ensures { result ≡ is_reserved b }
 {
-    if b == b'%' {
-        return true;
-    }
-    if b == b'+' {
-        return true;
-    }
-    if b == b'&' {
-        return true;
-    }
-    if b == b'=' {
-        return true;
-    }
-    if b == b'[' {
-        return true;
-    }
-    b == b']'
+    matches!(b, b'%' | b'+' | b'&' | b'=' | b'[' | b']')
 }
 
 // Writes a byte as an escape.
@@ -72,25 +57,19 @@ pub(crate) fn write_escape(b: u8, out: &mut [u8], at: usize) -> usize
 fn write_escaped_byte(b: u8, out: &mut [u8], at: usize) -> usize
     ensures { Puts (escaped_byte b) (page out.old at) (page out.new result) }
 {
-    if b == b' ' {
-        return put(b'+', out, at);
-    }
     if is_reserved(b) {
         return write_escape(b, out, at);
     }
-    put(b, out, at)
+    put(plain_byte(b), out, at)
 }
 
-// Writes the bytes from an index on, each so.
-pub(crate) fn write_escaped(bytes: &[u8], from: usize, out: &mut [u8], at: usize) -> usize
-    ensures { Puts (escaped (drop from bytes.now))
-        (page out.old at) (page out.new result) }
+// Writes each byte so.
+pub(crate) fn write_escaped(bytes: &[u8], out: &mut [u8], at: usize) -> usize
+    ensures { Puts (escaped bytes.now) (page out.old at) (page out.new result) }
 {
     let mut next = at;
-    let mut i = from;
-    while i < bytes.len() {
-        next = write_escaped_byte(bytes[i], out, next);
-        i += 1;
+    for byte in bytes {
+        next = write_escaped_byte(*byte, out, next);
     }
     next
 }
@@ -99,16 +78,8 @@ pub(crate) fn write_escaped(bytes: &[u8], from: usize, out: &mut [u8], at: usize
 fn has_room(len: usize, out: &[u8], at: usize) -> bool
     ensures { result ≡ has_room len (length out.now) at }
 {
-    if out.len() < at {
-        return false;
-    }
-    if Config::MAX_LEN < at {
-        return false;
-    }
-    if out.len() - at < len {
-        return false;
-    }
-    len <= Config::MAX_LEN - at
+    let end = out.len().min(Config::MAX_LEN);
+    at <= end && len <= end - at
 }
 
 // The place behind so many bytes more.
@@ -118,10 +89,7 @@ fn advance(at: usize, len: usize) -> usize
     if Config::MAX_LEN < at {
         return at;
     }
-    if Config::MAX_LEN - at < len {
-        return Config::MAX_LEN + 1;
-    }
-    at + len
+    at.saturating_add(len).min(Config::MAX_LEN + 1)
 }
 
 // Whether one of two bytes stands among these. All are looked at, with two compares a byte: so many are looked at at
@@ -129,13 +97,9 @@ fn advance(at: usize, len: usize) -> usize
 fn holds(bytes: &[u8], x: u8, y: u8) -> bool
     ensures { result ≡ any_of x y bytes.now }
 {
-    let mut hit = false;
-    let mut i = 0;
-    while i < bytes.len() {
-        hit = hit | (bytes[i] == x) | (bytes[i] == y);
-        i += 1;
-    }
-    hit
+    bytes
+        .iter()
+        .fold(false, |hit, b| hit | (*b == x) | (*b == y))
 }
 
 // Whether one of the bytes must be escaped.
@@ -149,23 +113,14 @@ fn any_reserved(bytes: &[u8]) -> bool
 fn count_reserved(bytes: &[u8]) -> usize
     ensures { result ≡ count_reserved bytes.now }
 {
-    let mut n = 0;
-    let mut i = 0;
-    while i < bytes.len() {
-        n += is_reserved(bytes[i]) as usize;
-        i += 1;
-    }
-    n
+    bytes.iter().filter(|b| is_reserved(**b)).count()
 }
 
 // A byte that needs no escape, as it is written.
 fn plain_byte(b: u8) -> u8
     ensures { result ≡ plain_byte b }
 {
-    if b == b' ' {
-        return b'+';
-    }
-    b
+    if b == b' ' { b'+' } else { b }
 }
 
 // Writes bytes that need no escape where there is room for all of them.
@@ -173,12 +128,10 @@ fn lay(bytes: &[u8], out: &mut [u8], at: usize) -> usize
     requires { Room (length bytes.now) out.old at × (any_reserved bytes.now ≡ false) }
     ensures { Puts (escaped bytes.now) (page out.old at) (page out.new result) }
 {
-    let mut i = 0;
-    while i < bytes.len() {
-        out[at + i] = plain_byte(bytes[i]);
-        i += 1;
+    for (i, byte) in bytes.iter().enumerate() {
+        out[at + i] = plain_byte(*byte);
     }
-    at + i
+    at + bytes.len()
 }
 
 // Writes a byte escaped where there is room for an escape.
@@ -202,10 +155,8 @@ fn lay_each(bytes: &[u8], out: &mut [u8], at: usize) -> usize
     ensures { Puts (escaped bytes.now) (page out.old at) (page out.new result) }
 {
     let mut next = at;
-    let mut i = 0;
-    while i < bytes.len() {
-        next = lay_byte(bytes[i], out, next);
-        i += 1;
+    for byte in bytes {
+        next = lay_byte(*byte, out, next);
     }
     next
 }
@@ -221,7 +172,7 @@ fn write_plain(bytes: &[u8], out: &mut [u8], at: usize) -> usize
     if has_room(bytes.len(), out, at) {
         return lay(bytes, out, at);
     }
-    write_escaped(bytes, 0, out, at)
+    write_escaped(bytes, out, at)
 }
 
 // Writes bytes of which some need an escape. No more of them than the length limit: so three times their count is no
@@ -236,20 +187,30 @@ fn write_reserved(bytes: &[u8], out: &mut [u8], at: usize) -> usize
     if has_room(3 * bytes.len(), out, at) {
         return lay_each(bytes, out, at);
     }
-    write_escaped(bytes, 0, out, at)
+    write_escaped(bytes, out, at)
 }
 
-// Writes bytes escaped, as `write_escaped` does from the first on, faster than it where they are many.
-pub(crate) fn write_long(bytes: &[u8], out: &mut [u8], at: usize) -> usize
+// Writes bytes escaped, as `write_escaped` does, faster than it where they are many.
+fn write_long(bytes: &[u8], out: &mut [u8], at: usize) -> usize
     ensures { Puts (escaped bytes.now) (page out.old at) (page out.new result) }
 {
     if Config::MAX_LEN < bytes.len() {
-        return write_escaped(bytes, 0, out, at);
+        return write_escaped(bytes, out, at);
     }
     if any_reserved(bytes) {
         return write_reserved(bytes, out, at);
     }
     write_plain(bytes, out, at)
+}
+
+// Writes bytes escaped, at once where they are many.
+pub(crate) fn write_text(bytes: &[u8], out: &mut [u8], at: usize) -> usize
+    ensures { Puts (escaped bytes.now) (page out.old at) (page out.new result) }
+{
+    if 16 <= bytes.len() {
+        return write_long(bytes, out, at);
+    }
+    write_escaped(bytes, out, at)
 }
 
 // The digits of a number, turned round.
@@ -272,26 +233,13 @@ fn turned(n: u32) -> Digits
 pub(crate) fn write_decimal(n: u32, out: &mut [u8], at: usize) -> usize
     ensures { Puts (decimal n) (page out.old at) (page out.new result) }
 {
-    let all = turned(n);
-    let mut back = all.back;
-    let mut len = all.len;
+    let Digits { mut back, len } = turned(n);
     let mut next = at;
-    while 0 < len {
+    for _written in 0..len {
         next = put(b'0' + (back % 10) as u8, out, next);
         back /= 10;
-        len -= 1;
     }
     next
-}
-
-// The output's byte at an index, or 0 past its end.
-fn byte_or_zero(out: &[u8], i: usize) -> u8
-    ensures { result ≡ get_or out.now i 0 }
-{
-    if i < out.len() {
-        return out[i];
-    }
-    0
 }
 
 // Writes once more so many bytes from `start` on, all of which stand before the place, where there is room for them.
@@ -300,12 +248,8 @@ fn lay_again(start: usize, len: usize, out: &mut [u8], at: usize) -> usize
     ensures { Puts (take len (drop start out.old))
         (page out.old at) (page out.new result) }
 {
-    let mut i = 0;
-    while i < len {
-        out[at + i] = out[start + i];
-        i += 1;
-    }
-    at + i
+    out.copy_within(start..start + len, at);
+    at + len
 }
 
 // Whether the bytes from `start` to `end` all stand before the place and can all be stored once more from it on.
@@ -313,10 +257,7 @@ fn has_room_again(start: usize, end: usize, out: &[u8], at: usize) -> bool
     requires { start ≤ end }
     ensures { result ≡ has_room_again start end (length out.now) at }
 {
-    if at < end {
-        return false;
-    }
-    has_room(end - start, out, at)
+    end <= at && has_room(end - start, out, at)
 }
 
 // Writes once more the bytes that stand from `start` to `end`, byte by byte.
@@ -324,11 +265,9 @@ fn copy_each(start: usize, end: usize, out: &mut [u8], at: usize) -> usize
     ensures { Copies start end (page out.old at) (page out.new result) }
 {
     let mut next = at;
-    let mut i = start;
-    while i < end {
-        let b = byte_or_zero(out, i);
-        next = put(b, out, next);
-        i += 1;
+    for i in start..end {
+        let byte = out.get(i).copied().unwrap_or(0);
+        next = put(byte, out, next);
     }
     next
 }

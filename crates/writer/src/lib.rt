@@ -17,7 +17,15 @@ ghost use Rattle.writer.specs.Filled.{FilledRoot};
 ghost use Rattle.writer.specs.Measuring.{length_within};
 
 use config::Config;
+use row::Lent;
 use walk::{Item, Place};
+
+// What is written: the tree that lent words and text hold, by these settings.
+#[derive(Clone, Copy)]
+pub(crate) struct Source<'a> {
+    pub config: Config,
+    pub lent: Lent<'a>,
+}
 
 // Writes the input for the tree that words and text hold, as much of it as the output has room for and the length limit
 // allows. Answers its length, or the length limit and one more where it is longer. Past it the output is unchanged.
@@ -25,7 +33,11 @@ pub fn write_tree(config: Config, words: &[u32], text: &[u8], out: &mut [u8]) ->
     ensures { FilledRoot (value_in words.now text.now) → Holds out.old
         (written config (tree_in words.now text.now)) (page out.new result) }
 {
-    if walk::is_undecided(words) {
+    let source = Source {
+        config,
+        lent: Lent { words, text },
+    };
+    if source.is_undecided() {
         return bytes::put(b'&', out, 0);
     }
     let place = Place {
@@ -36,7 +48,7 @@ pub fn write_tree(config: Config, words: &[u32], text: &[u8], out: &mut [u8]) ->
     };
     let n = 0;
     let left = words.len();
-    walk::write_value(config, words, text, Item { n, left, place }, out)
+    source.write_value(Item { n, left, place }, out)
 }
 
 // How long that is, or the length limit and one more where it is longer.

@@ -2,11 +2,11 @@
 // there for the others. The functions call each other, and hand on the steps that are left, which fall with each value:
 // so the walk over any words ends. `write_value` calls itself through functions that are called in one place each: so
 // they are inlined into it, and a record costs one call.
-ghost use Rattle.std.specs.Prelude.{◌≡◌, true, cond, ◌||◌, [], ◌∷◌, ◌+◌, ◌≤◌, ◌<◌, ◌^◌, eqb, ltb};
+ghost use Rattle.std.specs.Prelude.{◌≡◌, true, cond, ◌||◌, [], ◌∷◌, ◌+◌, ◌≤◌, ◌<◌, ◌^◌, ℕ, eqb, ltb};
 ghost use Rattle.ascii.specs.Bytes.{ampersand};
-ghost use Rattle.row.specs.Row.{kind_word, text_word, text_len_word, map_kind, sequence_kind, no_value_kind};
+ghost use Rattle.row.specs.Row.{kind_word, map_kind, sequence_kind, no_value_kind};
 ghost use Rattle.writer.specs.declared.walk.Part.TheVariants.{Named, Empty};
-ghost use Rattle.row.specs.Words.{word, text_part};
+ghost use Rattle.row.specs.Words.{word, string_part};
 ghost use Rattle.reading.specs.Values.{row_key};
 ghost use Rattle.reading.specs.Buffers.{row_in, value_within, forest_within};
 ghost use Rattle.output.specs.Output.{page};
@@ -16,8 +16,8 @@ ghost use Rattle.writer.specs.Walking.{key_of_record, taken_by, keyed_by, child_
 ghost use Rattle.writer.specs.Walking.{inner_part, inner_at, place_under_empty, Writes, WritesTaken, WritesChildren};
 
 use crate::keys::Keyed;
-use crate::{bytes, keys};
-use config::Config;
+use crate::{Source, bytes, keys};
+use row::Kind;
 
 // Where a value stands: the key in front of it, from `start` to `end` in the output, its listed level, and whether the
 // elements of a Sequence there repeat that key.
@@ -69,26 +69,6 @@ pub struct Reached {
     pub skipped: usize,
 }
 
-// Whether the root is Uninitialized.
-pub(crate) fn is_undecided(words: &[u32]) -> bool
-    ensures { result ≡ (ltb (word words.now 0 kind_word) map_kind
-        || ltb no_value_kind (word words.now 0 kind_word)) }
-{
-    let kind = row::word_or_zero(words, 0, row::KIND);
-    (kind < row::MAP) | (row::NO_VALUE < kind)
-}
-
-// Whether a child is one of those that are written.
-fn takes(part: Part, words: &[u32], text: &[u8], n: u32) -> bool
-    ensures { result ≡ taken_by part (row_key (row_in (keyed_by part) words.now text.now n)) }
-{
-    match part {
-        Part::Named => !keys::has_empty_key(words, text, n),
-        Part::Empty => keys::has_empty_key(words, text, n),
-        Part::Element => true,
-    }
-}
-
 // Writes '&' if anything is written so far.
 fn separate(out: &mut [u8], at: usize) -> usize
     ensures { Puts (cond (eqb at 0) [] (ampersand ∷ []))
@@ -118,32 +98,6 @@ fn open(place: Place, out: &mut [u8], from: Progress) -> Place
     }
 }
 
-// Writes a named child's own part of its key behind its parent's, which stands at the end. Answers where it stands.
-fn enter_named(config: Config, words: &[u32], text: &[u8], child: Child, out: &mut [u8]) -> Place
-    requires { child.place.level + 1 < 2 ^ 64 }
-    ensures { Moves
-        (λ p. child_at Named config p (key_of_record words.now text.now child.n))
-        child.place result out.old out.new }
-{
-    let level = child.place.level + 1;
-    let n = child.n;
-    let end = keys::write_part(
-        config,
-        words,
-        text,
-        Keyed { n, level },
-        out,
-        child.place.end,
-    );
-    let deep = keys::is_at_depth(config, level);
-    Place {
-        start: child.place.start,
-        end,
-        level,
-        repeats: (config.depth == 0) | deep,
-    }
-}
-
 // Where a child under the empty key stands, of a Map that stands here: its key has no part of its own.
 fn enter_empty(place: Place) -> Place
     requires { place.level + 1 < 2 ^ 64 }
@@ -154,21 +108,6 @@ fn enter_empty(place: Place) -> Place
         end: place.end,
         level: place.level + 1,
         repeats: true,
-    }
-}
-
-// Writes a child's own part of its key behind its parent's, which stands at the end. Answers where it stands.
-fn enter(config: Config, words: &[u32], text: &[u8], child: Child, out: &mut [u8]) -> Place
-    requires { child.place.level + 1 < 2 ^ 64 }
-    ensures { Moves (λ p. child_at child.part config p
-        (row_key (row_in (keyed_by child.part) words.now text.now child.n)))
-        child.place result out.old out.new }
-{
-    let part = child.part;
-    match part {
-        Part::Named => enter_named(config, words, text, child, out),
-        Part::Empty => enter_empty(child.place),
-        Part::Element => child.place,
     }
 }
 
@@ -199,184 +138,198 @@ fn bracket(place: Place, out: &mut [u8]) -> Place
     }
 }
 
-// Writes what stands behind the key of a single value.
-fn write_single(words: &[u32], text: &[u8], n: u32, out: &mut [u8], at: usize) -> usize
-    ensures { Puts (behind_key (word words.now n kind_word)
-        (text_part text.now (word words.now n text_word) (word words.now n text_len_word)))
-        (page out.old at) (page out.new result) }
-{
-    let kind = row::word_or_zero(words, n, row::KIND);
-    if kind == row::NO_VALUE {
-        return at;
-    }
-    let value = bytes::put(b'=', out, at);
-    if kind == row::NULL {
-        return value;
-    }
-    let offset = row::word_or_zero(words, n, row::TEXT);
-    let len = row::word_or_zero(words, n, row::TEXT_LEN);
-    let string = row::text_part(text, offset, len);
-    if 16 <= string.len() {
-        return bytes::write_long(string, out, value);
-    }
-    bytes::write_escaped(string, 0, out, value)
-}
-
-// How the children of a Map or a Sequence are written, by its kind: a Sequence's as elements, a Map's under their keys.
-fn inner_part(kind: u32) -> Part
-    ensures { result ≡ inner_part kind }
-{
-    if kind == row::SEQUENCE {
-        return Part::Element;
-    }
-    Part::Named
-}
-
-// Where the elements of a Sequence stand, or a Map itself, by its kind, while its key stands at the end. Writes `[]`
-// behind that of a Sequence, unless its elements repeat it, and nothing for a Map.
-fn inner_place(kind: u32, place: Place, out: &mut [u8]) -> Place
+// Where the elements of a Sequence stand, or a Map itself, while its key stands at the end. Writes `[]` behind that of
+// a Sequence, unless its elements repeat it, and nothing for a Map.
+fn inner_place(part: Part, place: Place, out: &mut [u8]) -> Place
     requires { place.level + 1 < 2 ^ 64 }
-    ensures { Moves (inner_at kind) place result out.old out.new }
+    ensures { (kind : ℕ) → part ≡ inner_part kind → Moves (inner_at kind) place result out.old out.new }
 {
-    if kind == row::SEQUENCE {
-        return bracket(place, out);
+    match part {
+        Part::Element => bracket(place, out),
+        _ => place,
     }
-    place
 }
 
-// Writes the pairs of a value, of which there are some, behind what is written so far. Its key stands at the end.
-// (Nothing below the root is Uninitialized, so that kind may be taken for a Map's.)
-#[cycle(children)]
-pub(crate) fn write_value(
-    config: Config,
-    words: &[u32],
-    text: &[u8],
-    item: Item,
-    out: &mut [u8],
-) -> usize
-    requires { item.place.level + item.left < 2 ^ 64 }
-    ensures { Writes config item.place
-        (value_within item.left words.now text.now item.n)
-        out.old (page out.new result) }
-{
-    if item.left == 0 {
-        return item.place.end;
+impl Source<'_> {
+    // Whether the root is Uninitialized, as a number that stands for no kind says too.
+    pub(crate) fn is_undecided(&self) -> bool
+        ensures { result ≡ (ltb (word self.now.lent.words.now 0 kind_word) map_kind
+            || ltb no_value_kind (word self.now.lent.words.now 0 kind_word)) }
+    {
+        matches!(self.lent.kind(0), Ok(Kind::Uninitialized) | Err(_))
     }
-    let kind = row::word_or_zero(words, item.n, row::KIND);
-    if row::SEQUENCE < kind {
-        return write_single(words, text, item.n, out, item.place.end);
-    }
-    write_inner(config, words, text, item, out, kind)
-}
 
-// Writes the pairs of a Map or a Sequence behind what is written so far: those of its children, but of a Map those of
-// the empty key last. Few Maps have it, and the children of the others are walked only once.
-#[cycle(children)]
-fn write_inner(
-    config: Config,
-    words: &[u32],
-    text: &[u8],
-    item: Item,
-    out: &mut [u8],
-    kind: u32,
-) -> usize
-    requires { (0 < item.left) × (item.place.level + item.left < 2 ^ 64)
-        × (kind ≡ word words.now item.n kind_word) × (kind ≤ sequence_kind) }
-    ensures { Writes config item.place
-        (value_within item.left words.now text.now item.n)
-        out.old (page out.new result) }
-{
-    let n = row::word_or_zero(words, item.n, row::CHILD);
-    let left = item.left - 1;
-    let part = inner_part(kind);
-    let place = inner_place(kind, item.place, out);
-    let next = write_children(config, words, text, Child { part, n, place }, left, out);
-    if next.skipped == 0 {
-        return next.progress.at;
+    // Whether a child is one of those that are written.
+    fn takes(&self, part: Part, n: u32) -> bool
+        ensures { result ≡ taken_by part
+            (row_key (row_in (keyed_by part) self.now.lent.words.now self.now.lent.text.now n)) }
+    {
+        match part {
+            Part::Named => !self.has_empty_key(n),
+            Part::Empty => self.has_empty_key(n),
+            Part::Element => true,
+        }
     }
-    let first = Item { n, left, place };
-    let end = write_empty(config, words, text, first, out, next.progress);
-    end.at
-}
 
-// Writes the pairs of the children from the first on along its siblings, behind the key that stands at the end: a Map's
-// named ones, or elements, in as many steps. Tells whether one was skipped, which is one under the empty key.
-// The next sibling is read last, in both arms: a child's number alone is kept while its value is written. The arms are
-// no function of their own: the structs that it would take and answer cost more than the rest of the turn.
-#[cycle(children)]
-fn write_children(
-    config: Config,
-    words: &[u32],
-    text: &[u8],
-    first: Child,
-    steps: usize,
-    out: &mut [u8],
-) -> Reached
-    requires { first.place.level + steps < 2 ^ 64 }
-    ensures { WritesTaken first.part config first.place
-        (forest_within steps (keyed_by first.part) words.now text.now first.n)
-        out.old out.new result }
-{
-    let part = first.part;
-    let mut n = first.n;
-    let mut left = steps;
-    let mut at = first.place.end;
-    let mut fresh = true;
-    let mut skipped = 0usize;
-    while n != 0 {
-        if left == 0 {
-            let progress = Progress { at, fresh };
-            return Reached { progress, skipped };
+    // Writes a named child's own part of its key behind its parent's, which stands at the end. Answers where it stands.
+    fn enter_named(&self, child: Child, out: &mut [u8]) -> Place
+        requires { child.place.level + 1 < 2 ^ 64 }
+        ensures { Moves
+            (λ p. child_at Named self.now.config p
+            (key_of_record self.now.lent.words.now self.now.lent.text.now child.n))
+            child.place result out.old out.new }
+    {
+        let level = child.place.level + 1;
+        let n = child.n;
+        let end = self.write_part(Keyed { n, level }, out, child.place.end);
+        let deep = keys::is_at_depth(self.config, level);
+        Place {
+            start: child.place.start,
+            end,
+            level,
+            repeats: (self.config.depth == 0) | deep,
         }
-        left -= 1;
-        if !takes(part, words, text, n) {
-            skipped = 1;
-            n = row::word_or_zero(words, n, row::NEXT);
-            continue;
-        }
-        let place = open(first.place, out, Progress { at, fresh });
-        let place = enter(config, words, text, Child { part, n, place }, out);
-        at = write_value(config, words, text, Item { n, left, place }, out);
-        fresh = false;
-        n = row::word_or_zero(words, n, row::NEXT);
     }
-    let progress = Progress { at, fresh };
-    Reached { progress, skipped }
-}
 
-// Writes the pairs of a Map's children under the empty key, from the first child on along its siblings, behind those of
-// the others. `first` has the place of the Map.
-#[cycle(children)]
-fn write_empty(
-    config: Config,
-    words: &[u32],
-    text: &[u8],
-    first: Item,
-    out: &mut [u8],
-    from: Progress,
-) -> Progress
-    requires { first.place.level + first.left < 2 ^ 64 }
-    ensures { WritesChildren Empty config first.place
-        (forest_within first.left true words.now text.now first.n)
-        out.old out.new from result }
-{
-    let mut n = first.n;
-    let mut left = first.left;
-    let mut at = from.at;
-    let mut fresh = from.fresh;
-    while n != 0 {
-        if left == 0 {
-            return Progress { at, fresh };
+    // Writes a child's own part of its key behind its parent's, which stands at the end. Answers where it stands.
+    fn enter(&self, child: Child, out: &mut [u8]) -> Place
+        requires { child.place.level + 1 < 2 ^ 64 }
+        ensures { Moves (λ p. child_at child.part self.now.config p
+            (row_key (row_in (keyed_by child.part) self.now.lent.words.now self.now.lent.text.now child.n)))
+            child.place result out.old out.new }
+    {
+        let part = child.part;
+        match part {
+            Part::Named => self.enter_named(child, out),
+            Part::Empty => enter_empty(child.place),
+            Part::Element => child.place,
         }
-        left -= 1;
-        if !takes(Part::Empty, words, text, n) {
-            n = row::word_or_zero(words, n, row::NEXT);
-            continue;
-        }
-        let place = enter_empty(open(first.place, out, Progress { at, fresh }));
-        at = write_value(config, words, text, Item { n, left, place }, out);
-        fresh = false;
-        n = row::word_or_zero(words, n, row::NEXT);
     }
-    Progress { at, fresh }
+
+    // Writes what stands behind the key of a single value. A number that stands for no kind counts as a String's.
+    fn write_single(&self, n: u32, out: &mut [u8], at: usize) -> usize
+        ensures { Puts (behind_key (word self.now.lent.words.now n kind_word)
+            (string_part self.now.lent.words.now self.now.lent.text.now n))
+            (page out.old at) (page out.new result) }
+    {
+        match self.lent.kind(n) {
+            Ok(Kind::NoValue) => at,
+            Ok(Kind::Null) => bytes::put(b'=', out, at),
+            _ => {
+                let value = bytes::put(b'=', out, at);
+                bytes::write_text(self.lent.string_part(n), out, value)
+            }
+        }
+    }
+
+    // Writes the pairs of a value, of which there are some, behind what is written so far. Its key stands at the end.
+    // (Nothing below the root is Uninitialized, so that kind may be taken for a Map's.)
+    #[cycle(children)]
+    pub(crate) fn write_value(&self, item: Item, out: &mut [u8]) -> usize
+        requires { item.place.level + item.left < 2 ^ 64 }
+        ensures { Writes self.now.config item.place
+            (value_within item.left self.now.lent.words.now self.now.lent.text.now item.n)
+            out.old (page out.new result) }
+    {
+        if item.left == 0 {
+            return item.place.end;
+        }
+        let part = match self.lent.kind(item.n) {
+            Ok(Kind::Sequence) => Part::Element,
+            Ok(Kind::Map | Kind::Uninitialized) => Part::Named,
+            _ => return self.write_single(item.n, out, item.place.end),
+        };
+        self.write_inner(item, part, out)
+    }
+
+    // Writes the pairs of a Map or a Sequence behind what is written so far: those of its children, but of a Map those
+    // of the empty key last. Few Maps have it, and the children of the others are walked only once.
+    #[cycle(children)]
+    fn write_inner(&self, item: Item, part: Part, out: &mut [u8]) -> usize
+        requires { (0 < item.left) × (item.place.level + item.left < 2 ^ 64)
+            × (part ≡ inner_part (word self.now.lent.words.now item.n kind_word))
+            × (word self.now.lent.words.now item.n kind_word ≤ sequence_kind) }
+        ensures { Writes self.now.config item.place
+            (value_within item.left self.now.lent.words.now self.now.lent.text.now item.n)
+            out.old (page out.new result) }
+    {
+        let n = self.lent.word(item.n, row::CHILD);
+        let left = item.left - 1;
+        let place = inner_place(part, item.place, out);
+        let next = self.write_children(Child { part, n, place }, left, out);
+        if next.skipped == 0 {
+            return next.progress.at;
+        }
+        let first = Item { n, left, place };
+        let end = self.write_empty(first, out, next.progress);
+        end.at
+    }
+
+    // Writes the pairs of the children from the first on along its siblings, behind the key that stands at the end: a
+    // Map's named ones, or elements, in as many steps. Tells whether one was skipped, which is one under the empty key.
+    // The next sibling is read last, in both arms: a child's number alone is kept while its value is written. The arms
+    // are no function of their own: the structs that it would take and answer cost more than the rest of the turn.
+    #[cycle(children)]
+    fn write_children(&self, first: Child, steps: usize, out: &mut [u8]) -> Reached
+        requires { first.place.level + steps < 2 ^ 64 }
+        ensures { WritesTaken first.part self.now.config first.place
+            (forest_within steps (keyed_by first.part) self.now.lent.words.now self.now.lent.text.now first.n)
+            out.old out.new result }
+    {
+        let part = first.part;
+        let mut n = first.n;
+        let mut left = steps;
+        let mut at = first.place.end;
+        let mut fresh = true;
+        let mut skipped = 0usize;
+        while n != 0 {
+            if left == 0 {
+                let progress = Progress { at, fresh };
+                return Reached { progress, skipped };
+            }
+            left -= 1;
+            if !self.takes(part, n) {
+                skipped = 1;
+                n = self.lent.word(n, row::NEXT);
+                continue;
+            }
+            let place = open(first.place, out, Progress { at, fresh });
+            let place = self.enter(Child { part, n, place }, out);
+            at = self.write_value(Item { n, left, place }, out);
+            fresh = false;
+            n = self.lent.word(n, row::NEXT);
+        }
+        let progress = Progress { at, fresh };
+        Reached { progress, skipped }
+    }
+
+    // Writes the pairs of a Map's children under the empty key, from the first child on along its siblings, behind
+    // those of the others. `first` has the place of the Map.
+    #[cycle(children)]
+    fn write_empty(&self, first: Item, out: &mut [u8], from: Progress) -> Progress
+        requires { first.place.level + first.left < 2 ^ 64 }
+        ensures { WritesChildren Empty self.now.config first.place
+            (forest_within first.left true self.now.lent.words.now self.now.lent.text.now first.n)
+            out.old out.new from result }
+    {
+        let mut n = first.n;
+        let mut left = first.left;
+        let mut at = from.at;
+        let mut fresh = from.fresh;
+        while n != 0 {
+            if left == 0 {
+                return Progress { at, fresh };
+            }
+            left -= 1;
+            if !self.takes(Part::Empty, n) {
+                n = self.lent.word(n, row::NEXT);
+                continue;
+            }
+            let place = enter_empty(open(first.place, out, Progress { at, fresh }));
+            at = self.write_value(Item { n, left, place }, out);
+            fresh = false;
+            n = self.lent.word(n, row::NEXT);
+        }
+        Progress { at, fresh }
+    }
 }

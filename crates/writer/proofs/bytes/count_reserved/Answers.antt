@@ -1,15 +1,14 @@
-use native.Mathlib.Omega.{arith}
-use Rattle.writer.proofs.Runs.{counting_start, count-step, counting_more, counting_done}
+-- As many as `filter` leaves.
+use mathlib.Core.Path.{◌∙◌}
+use Rattle.std.proofs.Common.{rules, tests}
+use Rattle.std.proofs.lemmas.Iterator.{YieldsList-from_slice}
+use Rattle.std.proofs.lemmas.Iterator.Consumers.{YieldsList-from_filter, count_from_yields_List}
+use Rattle.ser.specs.Escaping.{is_reserved}
+use Rattle.writer.proofs.Runs.{filter-reserved}
 use Rattle.writer.proofs.bytes.count_reserved.Goals as goal
 
-pub loop-i-init : goal.loop-i-init
-loop-i-init c = counting_start _
-
-pub overflow_add-n : goal.overflow_add-n
-overflow_add-n c = omega (arith, count-step c.is_reserved.result, c.loop-i.invariant.below-index)
-
-pub loop-i-preserved : goal.loop-i-preserved
-loop-i-preserved c = counting_more c.loop-i.invariant c.loop-i-test.true c.is_reserved.ensures
-
 pub returns : goal.returns
-returns c = counting_done c.loop-i.invariant c.loop-i-test.false
+returns c =
+    count_from_yields_List c.filter.result _ c.count.ensures.ran
+    (YieldsList-from_filter _ is_reserved (YieldsList-from_slice c.args.bytes.now cc) c.filter.ensures.closure (λ x r q k. search (rules, tests)))
+    ∙ filter-reserved c.args.bytes.now

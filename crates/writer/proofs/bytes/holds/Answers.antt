@@ -1,11 +1,16 @@
-use Rattle.writer.proofs.Runs.{seeking_start, seeking_more, seeking_done}
+-- The fold keeps whether a byte was found so far.
+use mathlib.Core.Path.{◌∙◌}
+use mathlib.Core.Bool.{false, ◌||◌}
+use Rattle.std.proofs.Common.{eqb, rules, tests}
+use Rattle.std.proofs.lemmas.Iterator.{YieldsList-from_slice}
+use Rattle.std.proofs.lemmas.Iterator.Consumers.{fold_from_yields_List}
+use Rattle.writer.proofs.Runs.{fold-any_of}
 use Rattle.writer.proofs.bytes.holds.Goals as goal
 
-pub loop-i-init : goal.loop-i-init
-loop-i-init c = seeking_start _ _ _
-
-pub loop-i-preserved : goal.loop-i-preserved
-loop-i-preserved c = seeking_more c.loop-i.invariant c.loop-i-test.true
-
 pub returns : goal.returns
-returns c = seeking_done c.loop-i.invariant c.loop-i-test.false
+returns c =
+    let x = c.args.x in
+    let y = c.args.y in
+    fold_from_yields_List _ (λ hit b. (hit || eqb b x) || eqb b y) false _ c.fold.ensures.ran (YieldsList-from_slice c.args.bytes.now cc)
+    (λ a z b q k. search (rules, tests))
+    ∙ fold-any_of x y false c.args.bytes.now

@@ -1,16 +1,21 @@
+use mathlib.Core.Path.{◌≡◌, ap, ◌∙◌}
+use Prim.Native.Nat.{◌+◌, ◌-◌}
+use Rattle.writer.specs.Runs.{digits_from}
+use native.Mathlib.Omega.{arith}
 use Rattle.writer.proofs.Pages.{putting_more, putting_done}
 use Rattle.writer.proofs.Digits.{digits-start, digits_more, digits-done}
 use Rattle.writer.proofs.bytes.write_decimal.Goals as goal
 
-pub loop-len-init : goal.loop-len-init
-loop-len-init c = digits-start _ _ c.turned-all.ensures
+pub loop-written-init : goal.loop-written-init
+loop-written-init c =
+    let e : c.turned-back.result.len - 0 ≡ c.turned-back.result.len = omega arith in
+    digits-start _ _ (ap (λ k. digits_from k c.turned-back.result.back) e ∙ c.turned-back.ensures)
 
-pub loop-len-preserved : goal.loop-len-preserved
-loop-len-preserved c =
-    putting_more c.loop-len.invariant (digits_more _ _ c.loop-len-test.true) c.put-next.ensures c.put-next.auto.out
-
-pub shape_of-out : goal.shape_of-out
-shape_of-out c = c.loop-len.invariant.long
+pub loop-written-preserved : goal.loop-written-preserved
+loop-written-preserved c =
+    let k : c.turned-back.result.len - (c.loop-written._written + 1) ≡ c.turned-back.result.len - c.loop-written._written - 1 = omega arith in
+    rw k (putting_more c.loop-written.invariant (digits_more (c.turned-back.result.len - c.loop-written._written) c.loop-written.back (omega arith))
+    c.put-next.ensures c.put-next.auto.out)
 
 pub returns : goal.returns
-returns c = putting_done c.loop-len.invariant (digits-done _ _ c.loop-len-test.false)
+returns c = putting_done c.loop-written.invariant (digits-done _ _ (omega arith))

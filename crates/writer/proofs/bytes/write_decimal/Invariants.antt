@@ -1,11 +1,9 @@
--- Putting the digits that are left, from the lowest on, gives what putting all would; their count falls to nothing.
+-- The digits that are left are still to come.
+use Prim.Native.Nat.{◌-◌}
 use Rattle.output.specs.Numbers.{decimal}
 use Rattle.writer.specs.Runs.{digits_from}
 use Rattle.writer.proofs.Pages.{Putting}
 use Rattle.writer.proofs.bytes.write_decimal.Given as goal
 
-abbrev pub invariant-loop-len : goal.invariant-loop-len
-invariant-loop-len l = Putting (digits_from l.len l.back) (decimal l.n) l.initial.out l.out l.at l.next
-
-abbrev pub decreases-loop-len : goal.decreases-loop-len
-decreases-loop-len l = l.len
+abbrev pub invariant-loop-written : goal.invariant-loop-written
+invariant-loop-written l = Putting (digits_from (l.len - l._written) l.back) (decimal l.n) l.initial.out l.out l.at l.next

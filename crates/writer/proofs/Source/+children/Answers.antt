@@ -8,7 +8,9 @@ use Rattle.writer.proofs.Turns.{writes-none, writes-single, writes_inner, writes
 use Rattle.writer.proofs.Turns.{moves_empty, open_level, enter-level, empty_level, inner_level}
 use Rattle.writer.proofs.Turns.{forest-end, forest-out, going_start, going_turn, going_done}
 use Rattle.writer.proofs.Turns.{skipping_start, skipping_taken, skipping_skipped, taken-done}
-use Rattle.writer.proofs.walk.+children.Goals as goal
+use Rattle.writer.proofs.Source.+children.Goals as goal
+use Rattle.writer.proofs.Source.+children.Goals.{write_value-in_default-via-in-Ok+in_default, write_value-in_default-via-in_default}
+use Rattle.std.proofs.Common.{rules}
 
 pub write_children-loop-n-init : goal.write_children-loop-n-init
 write_children-loop-n-init t c = (going_start _ _ _ _ _ _ _, skipping_start _ _)
@@ -20,15 +22,15 @@ pub write_children-returns-then-left-eq0 : goal.write_children-returns-then-left
 write_children-returns-then-left-eq0 t c =
     let s = c.args in
     taken-done c.loop-n.invariant.0 c.loop-n.invariant.1
-    (forest-out s.words.now s.text.now c.loop-n.left c.loop-n.n (keyed_by s.first.part) c.if-left-eq0.true)
+    (forest-out s.self.now.lent.words.now s.self.now.lent.text.now c.loop-n.left c.loop-n.n (keyed_by s.first.part) c.if-left-eq0.true)
 
 pub write_children-loop-n-preserved-then-not-takes : goal.write_children-loop-n-preserved-then-not-takes
 write_children-loop-n-preserved-then-not-takes t c =
     let s = c.args in
-    let key = row_key (row_in (keyed_by s.first.part) s.words.now s.text.now c.loop-n.n) in
+    let key = row_key (row_in (keyed_by s.first.part) s.self.now.lent.words.now s.self.now.lent.text.now c.loop-n.n) in
     let skipped = c.if-not-takes.true in (
-      going_turn s.words.now s.text.now _ c.loop-n.invariant.0 c.if-left-eq0.false c.loop-n-test.true
-          (writes_skipped c.takes.ensures skipped) refl c.word_or_zero-n.ensures,
+      going_turn s.self.now.lent.words.now s.self.now.lent.text.now _ c.loop-n.invariant.0 c.if-left-eq0.false c.loop-n-test.true
+          (writes_skipped c.takes.ensures skipped) refl c.word-n.ensures,
       skipping_skipped key c.takes.ensures skipped,
     )
 
@@ -39,8 +41,8 @@ write_children-enter-place-requires t c =
 pub write_children-write_value-at-requires : goal.write_children-write_value-at-requires
 write_children-write_value-at-requires t c =
     let s = c.args in
-    let key = row_key (row_in (keyed_by s.first.part) s.words.now s.text.now c.loop-n.n) in
-    let level = enter-level s.first.part s.config key c.enter-place.ensures in (
+    let key = row_key (row_in (keyed_by s.first.part) s.self.now.lent.words.now s.self.now.lent.text.now c.loop-n.n) in
+    let level = enter-level s.first.part s.self.now.config key c.enter-place.ensures in (
       omega (arith, c.decreases, c.if-left-eq0.false, c.loop-n.invariant.0.fewer),
       omega (arith, c.requires, c.if-left-eq0.false, c.loop-n.invariant.0.fewer, open_level c.open-place.ensures, level),
     )
@@ -49,11 +51,11 @@ pub write_children-loop-n-preserved : goal.write_children-loop-n-preserved
 write_children-loop-n-preserved t c =
     let s = c.args in
     let taken = c.if-not-takes.false in (
-      going_turn s.words.now s.text.now _ c.loop-n.invariant.0 c.if-left-eq0.false c.loop-n-test.true
+      going_turn s.self.now.lent.words.now s.self.now.lent.text.now _ c.loop-n.invariant.0 c.if-left-eq0.false c.loop-n-test.true
           (writes-taken c.takes.ensures taken c.open-place.ensures c.enter-place.ensures c.write_value-at.ensures)
-          (c.write_value-at.auto.out ∙ c.enter-place.auto.out ∙ c.open-place.auto.out) c.word_or_zero-n-in-loop-n.ensures,
-      skipping_taken s.words.now s.text.now _ c.loop-n.invariant.1 c.if-left-eq0.false c.loop-n-test.true c.takes.ensures taken
-          c.word_or_zero-n-in-loop-n.ensures,
+          (c.write_value-at.auto.out ∙ c.enter-place.auto.out ∙ c.open-place.auto.out) c.word-n-in-loop-n.ensures,
+      skipping_taken s.self.now.lent.words.now s.self.now.lent.text.now _ c.loop-n.invariant.1 c.if-left-eq0.false c.loop-n-test.true c.takes.ensures taken
+          c.word-n-in-loop-n.ensures,
     )
 
 pub write_children-shape_of-out : goal.write_children-shape_of-out
@@ -63,7 +65,7 @@ pub write_children-returns : goal.write_children-returns
 write_children-returns t c =
     let s = c.args in
     taken-done c.loop-n.invariant.0 c.loop-n.invariant.1
-    (forest-end s.words.now s.text.now c.loop-n.left c.loop-n.n (keyed_by s.first.part) c.loop-n-test.false)
+    (forest-end s.self.now.lent.words.now s.self.now.lent.text.now c.loop-n.left c.loop-n.n (keyed_by s.first.part) c.loop-n-test.false)
 
 pub write_empty-loop-n-init : goal.write_empty-loop-n-init
 write_empty-loop-n-init t c = going_start _ _ _ _ _ _ _
@@ -74,13 +76,13 @@ write_empty-shape_of-out-then-left-eq0 t c = c.loop-n.invariant.long
 pub write_empty-returns-then-left-eq0 : goal.write_empty-returns-then-left-eq0
 write_empty-returns-then-left-eq0 t c =
     let s = c.args in
-    going_done c.loop-n.invariant (forest-out s.words.now s.text.now c.loop-n.left c.loop-n.n true c.if-left-eq0.true)
+    going_done c.loop-n.invariant (forest-out s.self.now.lent.words.now s.self.now.lent.text.now c.loop-n.left c.loop-n.n true c.if-left-eq0.true)
 
 pub write_empty-loop-n-preserved-then-not-takes : goal.write_empty-loop-n-preserved-then-not-takes
 write_empty-loop-n-preserved-then-not-takes t c =
     let s = c.args in
-    going_turn s.words.now s.text.now _ c.loop-n.invariant c.if-left-eq0.false c.loop-n-test.true
-    (writes_skipped c.takes.ensures c.if-not-takes.true) refl c.word_or_zero-n.ensures
+    going_turn s.self.now.lent.words.now s.self.now.lent.text.now _ c.loop-n.invariant c.if-left-eq0.false c.loop-n-test.true
+    (writes_skipped c.takes.ensures c.if-not-takes.true) refl c.word-n.ensures
 
 pub write_empty-enter_empty-place-requires : goal.write_empty-enter_empty-place-requires
 write_empty-enter_empty-place-requires t c =
@@ -102,9 +104,9 @@ write_empty-write_value-at-requires t c = (
 pub write_empty-loop-n-preserved : goal.write_empty-loop-n-preserved
 write_empty-loop-n-preserved t c =
     let s = c.args in
-    going_turn s.words.now s.text.now _ c.loop-n.invariant c.if-left-eq0.false c.loop-n-test.true
+    going_turn s.self.now.lent.words.now s.self.now.lent.text.now _ c.loop-n.invariant c.if-left-eq0.false c.loop-n-test.true
     (writes-taken c.takes.ensures c.if-not-takes.false c.«open».ensures (moves_empty _ _ c.enter_empty-place.ensures)
-    c.write_value-at.ensures) (c.write_value-at.auto.out ∙ c.«open».auto.out) c.word_or_zero-n-in-loop-n.ensures
+    c.write_value-at.ensures) (c.write_value-at.auto.out ∙ c.«open».auto.out) c.word-n-in-loop-n.ensures
 
 pub write_empty-shape_of-out : goal.write_empty-shape_of-out
 write_empty-shape_of-out t c = c.loop-n.invariant.long
@@ -112,7 +114,7 @@ write_empty-shape_of-out t c = c.loop-n.invariant.long
 pub write_empty-returns : goal.write_empty-returns
 write_empty-returns t c =
     let s = c.args in
-    going_done c.loop-n.invariant (forest-end s.words.now s.text.now c.loop-n.left c.loop-n.n true c.loop-n-test.false)
+    going_done c.loop-n.invariant (forest-end s.self.now.lent.words.now s.self.now.lent.text.now c.loop-n.left c.loop-n.n true c.loop-n-test.false)
 
 pub write_inner-overflow_sub-left : goal.write_inner-overflow_sub-left
 write_inner-overflow_sub-left t c = omega (arith, c.requires.0)
@@ -124,43 +126,40 @@ write_inner-inner_place-place-requires t c =
 pub write_inner-write_children-next-requires : goal.write_inner-write_children-next-requires
 write_inner-write_children-next-requires t c = (
   omega (arith, c.decreases, c.requires.0),
-  omega (arith, c.requires.0, c.requires.1, inner_level c.args.kind c.inner_place-place.ensures),
+  omega (arith, c.requires.0, c.requires.1, inner_level _ (c.inner_place-place.ensures _ c.requires.2)),
 )
 
 pub write_inner-returns-then-next-eq0 : goal.write_inner-returns-then-next-eq0
 write_inner-returns-then-next-eq0 t c =
     let s = c.args in
-    writes_inner s.words.now s.text.now s.item.left s.item.n c.requires.0 c.requires.2 c.requires.3
-    c.word_or_zero-n.ensures c.inner_part-part.ensures c.inner_place-place.ensures c.write_children-next.ensures c.if-next-eq0.true
+    writes_inner s.self.now.lent.words.now s.self.now.lent.text.now s.item.left s.item.n c.requires.0 refl c.requires.3
+    c.word-n.ensures c.requires.2 (c.inner_place-place.ensures _ c.requires.2) c.write_children-next.ensures c.if-next-eq0.true
 
 pub write_inner-write_empty-end-requires : goal.write_inner-write_empty-end-requires
 write_inner-write_empty-end-requires t c = (
   omega (arith, c.decreases, c.requires.0),
-  omega (arith, c.requires.0, c.requires.1, inner_level c.args.kind c.inner_place-place.ensures),
+  omega (arith, c.requires.0, c.requires.1, inner_level _ (c.inner_place-place.ensures _ c.requires.2)),
 )
 
 pub write_inner-returns : goal.write_inner-returns
 write_inner-returns t c =
     let s = c.args in
-    writes_inner_empty s.words.now s.text.now s.item.left s.item.n c.requires.0 c.requires.2 c.requires.3
-    c.word_or_zero-n.ensures c.inner_part-part.ensures c.inner_place-place.ensures c.write_children-next.ensures
+    writes_inner_empty s.self.now.lent.words.now s.self.now.lent.text.now s.item.left s.item.n c.requires.0 refl c.requires.3
+    c.word-n.ensures c.requires.2 (c.inner_place-place.ensures _ c.requires.2) c.write_children-next.ensures
     c.if-next-eq0.false c.write_empty-end.ensures
 
 pub write_value-returns-then-item-eq0 : goal.write_value-returns-then-item-eq0
 write_value-returns-then-item-eq0 t c =
-    let s = c.args in writes-none s.words.now s.text.now s.item.left s.item.n c.if-item-eq0.true
+    let s = c.args in writes-none s.self.now.lent.words.now s.self.now.lent.text.now s.item.left s.item.n c.if-item-eq0.true
 
-pub write_value-returns-then-kind-gt-SEQUENCE : goal.write_value-returns-then-kind-gt-SEQUENCE
-write_value-returns-then-kind-gt-SEQUENCE t c =
+pub write_value-returns-in_default : goal.write_value-returns-in_default
+write_value-returns-in_default t c =
     let s = c.args in
-    writes-single s.words.now s.text.now s.item.left s.item.n c.if-item-eq0.false c.word_or_zero-kind.ensures
-    (λ e. omega (arith, e, c.if-kind-gt-SEQUENCE.true)) (λ e. omega (arith, e, c.if-kind-gt-SEQUENCE.true)) c.write_single.ensures
-
-pub write_value-write_inner-requires : goal.write_value-write_inner-requires
-write_value-write_inner-requires t c = (
-  omega (arith, c.decreases),
-  (omega (arith, c.if-item-eq0.false), c.requires, c.word_or_zero-kind.ensures, omega (arith, c.if-kind-gt-SEQUENCE.false)),
-)
-
-pub write_value-returns : goal.write_value-returns
-write_value-returns t c = c.write_inner.ensures
+    let ws = s.self.now.lent.words.now in
+    elim c.in_default.branch [
+      | write_value-in_default-via-in-Ok+in_default w ↦ writes-single ws s.self.now.lent.text.now s.item.left s.item.n c.if-item-eq0.false refl
+          (search rules) (search rules) c.write_single.ensures
+      | write_value-in_default-via-in_default w ↦ writes-single ws s.self.now.lent.text.now s.item.left s.item.n c.if-item-eq0.false refl
+          (λ e. omega (arith, e, (rw w.in_default.is at c.kind.ensures).1)) (λ e. omega (arith, e, (rw w.in_default.is at c.kind.ensures).1))
+          c.write_single.ensures
+    ]
