@@ -2,18 +2,14 @@
 ghost use Rattle.std.specs.Prelude.{◌+◌, ◌≤◌, ◌<◌, ◌^◌};
 ghost use Rattle.aids.specs.Kept.{free_from, Kept};
 
-use crate::{free, keys, layout};
+use crate::{free, halving, keys, layout};
 
 // How many fingers a block has.
 pub(crate) fn count(words: &[u32], b: usize) -> u32
     requires { b + 97 < 2 ^ 64 }
     ensures { result ≤ 32 }
 {
-    let n = free::read(words, b + layout::COUNT);
-    if n < layout::MOST {
-        return n;
-    }
-    layout::MOST
+    free::read(words, b + layout::COUNT).min(layout::MOST)
 }
 
 // The tag of a finger.
@@ -30,49 +26,12 @@ pub(crate) fn child(words: &[u32], b: usize, i: u32) -> u32
     free::read(words, b + layout::CHILDREN + i as usize)
 }
 
-// Half of a range on, or not.
-pub(crate) fn raised(up: bool, low: u32, half: u32) -> u32
-    requires { low + half < 2 ^ 32 }
-    ensures { result ≤ low + half }
-{
-    if up {
-        return low + half;
-    }
-    low
-}
-
-// How many fingers from the first on have a tag that is not above the tag, where there are some.
-fn search(words: &[u32], b: usize, tag_sought: u64, some: u32) -> u32
-    requires { (b + 97 < 2 ^ 64) × (0 < some) × (some ≤ 32) }
-    ensures { result ≤ 32 }
-{
-    let mut low = 0;
-    let mut n = some;
-    let mut best = tag(words, b, 0);
-    while 1 < n {
-        let half = n / 2;
-        let x = tag(words, b, low + half);
-        let up = x <= tag_sought;
-        best = if up { x } else { best };
-        low = raised(up, low, half);
-        n -= half;
-    }
-    if best <= tag_sought {
-        return low + 1;
-    }
-    low
-}
-
 // How many fingers of a block have a tag that is not above the tag.
 pub(crate) fn count_not_above(words: &[u32], b: usize, tag_sought: u64) -> u32
     requires { b + 97 < 2 ^ 64 }
     ensures { result ≤ 32 }
 {
-    let n = count(words, b);
-    if n == 0 {
-        return 0;
-    }
-    search(words, b, tag_sought, n)
+    halving::count_held(count(words, b), |i| tag(words, b, i) <= tag_sought)
 }
 
 // Whether a finger stands at a key or before it.
@@ -97,17 +56,9 @@ pub(crate) fn count_not_after(
     requires { b + 97 < 2 ^ 64 }
     ensures { result ≤ 32 }
 {
-    let mut low = 0;
-    let mut high = count(words, b);
-    while low < high {
-        let middle = low + (high - low) / 2;
-        if is_not_after(words, text, b, middle, tag_sought, name) {
-            low = middle + 1;
-        } else {
-            high = middle;
-        }
-    }
-    low
+    halving::count_held(count(words, b), |i| {
+        is_not_after(words, text, b, i, tag_sought, name)
+    })
 }
 
 // Puts a finger at a place of a block, which has room.
@@ -116,16 +67,14 @@ pub(crate) fn put(words: &mut [u32], aids: u32, b: usize, place: u32, tag: u64, 
     ensures { Kept (free_from aids) words.old words.new }
 {
     let n = count(words, b);
-    if n < layout::MOST {
-        if place <= n {
-            let tags = b + 2 * place as usize;
-            let children = b + layout::CHILDREN + place as usize;
-            free::move_up(words, aids, tags, b + 2 * n as usize, 2);
-            free::write_tag(words, aids, tags, tag);
-            free::move_up(words, aids, children, b + layout::CHILDREN + n as usize, 1);
-            free::write(words, aids, children, child);
-            free::write(words, aids, b + layout::COUNT, n + 1);
-        }
+    if n < layout::MOST && place <= n {
+        let tags = b + 2 * place as usize;
+        let children = b + layout::CHILDREN + place as usize;
+        free::move_up(words, aids, tags, b + 2 * n as usize, 2);
+        free::write_tag(words, aids, tags, tag);
+        free::move_up(words, aids, children, b + layout::CHILDREN + n as usize, 1);
+        free::write(words, aids, children, child);
+        free::write(words, aids, b + layout::COUNT, n + 1);
     }
 }
 

@@ -6,13 +6,24 @@ ghost use Rattle.aids.specs.Kept.{free_from, Kept};
 use crate::{Among, blocks, free, keys, layout, order, slots};
 
 // How the last key was looked for: without fingers, by those of a block, or in vain as the record has no block.
-const NEAR: u32 = 0;
+#[derive(Clone, Copy, PartialEq, Eq)]
+enum Way {
+    Near = 0,
+    ByBlock = 1,
+    NoBlock = 2,
+}
 
-const BY_BLOCK: u32 = 1;
+impl From<u32> for Way {
+    fn from(word: u32) -> Way {
+        match word {
+            0 => Way::Near,
+            2 => Way::NoBlock,
+            _ => Way::ByBlock,
+        }
+    }
+}
 
-const NO_BLOCK: u32 = 2;
-
-// It was not walked far.
+// The word of no child: it was not walked far.
 const NOWHERE: u32 = 4294967295;
 
 // Of the children along a long walk, one in so many gets a finger.
@@ -26,16 +37,35 @@ pub fn start(words: &mut [u32], aids: u32)
     slots::clear(words, aids, 0);
 }
 
+// How the last key was looked for.
+fn last_way(words: &[u32], aids: u32) -> Way {
+    Way::from(free::read(words, layout::head_at(aids, layout::WAY)))
+}
+
+fn set_way(words: &mut [u32], aids: u32, way: Way)
+    ensures { Kept (free_from aids) words.old words.new }
+{
+    free::write(words, aids, layout::head_at(aids, layout::WAY), way as u32);
+}
+
 // Notes that a key is looked for without fingers.
 pub fn look_near(words: &mut [u32], aids: u32)
     ensures { Kept (free_from aids) words.old words.new }
 {
-    free::write(words, aids, layout::head_at(aids, layout::WAY), NEAR);
+    set_way(words, aids, Way::Near);
 }
 
 // Whether the last key was looked for by fingers.
 pub fn looked_by_fingers(words: &[u32], aids: u32) -> bool {
-    free::read(words, layout::head_at(aids, layout::WAY)) != NEAR
+    last_way(words, aids) != Way::Near
+}
+
+// The child from which the last key was walked to far.
+fn far(words: &[u32], aids: u32) -> Option<u32> {
+    match free::read(words, layout::head_at(aids, layout::FAR)) {
+        NOWHERE => None,
+        first => Some(first),
+    }
 }
 
 // Notes that a key is walked to far, from a child on.
@@ -45,31 +75,28 @@ pub fn walk_far(words: &mut [u32], aids: u32, first: u32)
     free::write(words, aids, layout::head_at(aids, layout::FAR), first);
 }
 
-// Notes the spot of a key, and answers the child of the finger before it, or 0.
-fn set_spot(words: &mut [u32], aids: u32, entry: u32, b: usize, place: u32) -> u32
-    requires { (b + 97 < 2 ^ 64) × (place < 33) }
+// Notes the spot of a key among the fingers.
+fn set_spot(words: &mut [u32], aids: u32, entry: u32, place: u32)
     ensures { Kept (free_from aids) words.old words.new }
 {
-    free::write(words, aids, layout::head_at(aids, layout::WAY), BY_BLOCK);
+    set_way(words, aids, Way::ByBlock);
     free::write(words, aids, layout::head_at(aids, layout::ENTRY), entry);
     free::write(words, aids, layout::head_at(aids, layout::PLACE), place);
-    if place == 0 {
-        return 0;
-    }
-    blocks::child(words, b, place - 1)
 }
 
-// The child proposed for a key among others of its tag, or 0.
-fn propose_tied(words: &mut [u32], text: &[u8], among: Among, tag: u64, name: &[u8]) -> u32
+// The child proposed for a key among others of its tag.
+fn propose_tied(words: &mut [u32], text: &[u8], among: Among, tag: u64, name: &[u8]) -> Option<u32>
     ensures { Kept (free_from among.aids) words.old words.new }
 {
     let entry = order::find_tied(words, text, among, tag, name);
     let b = order::block(words, among.aids, entry);
     let place = blocks::count_not_after(words, text, b, tag, name);
-    set_spot(words, among.aids, entry, b, place)
+    set_spot(words, among.aids, entry, place);
+    let last = place.checked_sub(1)?;
+    Some(blocks::child(words, b, last))
 }
 
-// The child of the last finger of a block that is not above the tag, or 0.
+// The child of the last finger of a block that is not above the tag.
 fn propose_in(
     words: &mut [u32],
     text: &[u8],
@@ -77,45 +104,32 @@ fn propose_in(
     entry: u32,
     tag: u64,
     name: &[u8],
-) -> u32
+) -> Option<u32>
     ensures { Kept (free_from among.aids) words.old words.new }
 {
     let b = order::block(words, among.aids, entry);
     let place = blocks::count_not_above(words, b, tag);
-    let child = set_spot(words, among.aids, entry, b, place);
-    if 0 < place {
-        if blocks::tag(words, b, place - 1) == tag {
-            if keys::is_not_after(words, text, child, tag, name) {
-                return child;
-            }
-            return propose_tied(words, text, among, tag, name);
-        }
+    set_spot(words, among.aids, entry, place);
+    let last = place.checked_sub(1)?;
+    let child = blocks::child(words, b, last);
+    if blocks::tag(words, b, last) != tag || keys::is_not_after(words, text, child, tag, name) {
+        return Some(child);
     }
-    child
+    propose_tied(words, text, among, tag, name)
 }
 
-// The child proposed for a key, or 0: that of the last finger that is not after it.
-pub fn propose(words: &mut [u32], text: &[u8], among: Among, tag: u64, name: &[u8]) -> u32
+// The child proposed for a key: that of the last finger that is not after it.
+pub fn propose(words: &mut [u32], text: &[u8], among: Among, tag: u64, name: &[u8]) -> Option<u32>
     ensures { Kept (free_from among.aids) words.old words.new }
 {
-    free::write(
-        words,
-        among.aids,
-        layout::head_at(among.aids, layout::WAY),
-        NO_BLOCK,
-    );
-    free::write(
-        words,
-        among.aids,
-        layout::head_at(among.aids, layout::FAR),
-        NOWHERE,
-    );
+    set_way(words, among.aids, Way::NoBlock);
+    walk_far(words, among.aids, NOWHERE);
     if order::count(words, among.aids) == 0 {
-        return 0;
+        return None;
     }
     let entry = order::find(words, among, tag);
     if order::parent(words, among.aids, entry) != among.parent {
-        return 0;
+        return None;
     }
     propose_in(words, text, among, entry, tag, name)
 }
@@ -123,10 +137,9 @@ pub fn propose(words: &mut [u32], text: &[u8], among: Among, tag: u64, name: &[u
 // The place in the order for the first block of a record.
 fn first_place(words: &[u32], among: Among) -> u32 {
     let entry = order::find(words, among, 0);
-    if order::parent(words, among.aids, entry) < among.parent {
-        if entry < order::count(words, among.aids) {
-            return entry + 1;
-        }
+    let is_before = order::parent(words, among.aids, entry) < among.parent;
+    if is_before && entry < order::count(words, among.aids) {
+        return entry + 1;
     }
     entry
 }
@@ -175,7 +188,7 @@ fn add(words: &mut [u32], among: Among, tag: u64, child: u32)
     ensures { Kept (free_from among.aids) words.old words.new }
 {
     let aids = among.aids;
-    if free::read(words, layout::head_at(aids, layout::WAY)) == NO_BLOCK {
+    if last_way(words, aids) == Way::NoBlock {
         return add_first(words, among, tag, child);
     }
     let entry = free::read(words, layout::head_at(aids, layout::ENTRY));
@@ -225,16 +238,11 @@ fn add_along(words: &mut [u32], text: &[u8], among: Among, first: u32, to: u32)
     ensures { Kept (free_from among.aids) words.old words.new }
 {
     let mut child = first;
-    let mut left = among.aids;
-    while 0 < left {
-        if child == 0 {
+    for turn in (0..among.aids).rev() {
+        if child == 0 || child == to {
             return;
         }
-        if child == to {
-            return;
-        }
-        left -= 1;
-        add_in_turn(words, text, among, child, left);
+        add_in_turn(words, text, among, child, turn);
         child = keys::next(words, child);
     }
 }
@@ -243,8 +251,7 @@ fn add_along(words: &mut [u32], text: &[u8], among: Among, first: u32, to: u32)
 pub fn settle(words: &mut [u32], text: &[u8], among: Among, child: u32)
     ensures { Kept (free_from among.aids) words.old words.new }
 {
-    let first = free::read(words, layout::head_at(among.aids, layout::FAR));
-    if first != NOWHERE {
+    if let Some(first) = far(words, among.aids) {
         add_along(words, text, among, first, child);
     }
 }
@@ -253,9 +260,8 @@ pub fn settle(words: &mut [u32], text: &[u8], among: Among, child: u32)
 pub fn settle_new(words: &mut [u32], text: &[u8], among: Among, tag: u64, child: u32)
     ensures { Kept (free_from among.aids) words.old words.new }
 {
-    let first = free::read(words, layout::head_at(among.aids, layout::FAR));
-    if first == NOWHERE {
-        return add_one_in_three(words, among, tag, child);
+    match far(words, among.aids) {
+        Some(first) => add_along(words, text, among, first, child),
+        None => add_one_in_three(words, among, tag, child),
     }
-    add_along(words, text, among, first, child);
 }

@@ -28,13 +28,10 @@ pub(crate) fn part_of(words: &[u32], text: &[u8], n: u32) -> Part
 {
     let start = word(words, n, row::KEY) as usize;
     let end = start + word(words, n, row::KEY_LEN) as usize;
-    if word(words, n, row::KEY_KIND) != row::STRING_KEY {
-        return Part { start: 0, end: 0 };
+    match row::KeyKind::try_from(word(words, n, row::KEY_KIND)) {
+        Ok(row::KeyKind::String) if end <= text.len() => Part { start, end },
+        _ => Part { start: 0, end: 0 },
     }
-    if text.len() < end {
-        return Part { start: 0, end: 0 };
-    }
-    Part { start, end }
 }
 
 // Half a head fits above the Ints.
@@ -44,8 +41,8 @@ fn string_tag(head: u64) -> u64 {
 
 // The tag of record n's key.
 pub(crate) fn tag(words: &[u32], text: &[u8], n: u32) -> u64 {
-    if word(words, n, row::KEY_KIND) == row::INT_KEY {
-        return word(words, n, row::KEY) as u64;
+    if let Ok(row::KeyKind::Int) = row::KeyKind::try_from(word(words, n, row::KEY_KIND)) {
+        return u64::from(word(words, n, row::KEY));
     }
     let part = part_of(words, text, n);
     string_tag(tags::head(text, part.start, part.end - part.start))

@@ -8,6 +8,7 @@
 mod blocks; // the fingers of a block
 pub mod fingers; // a child proposed by the fingers, and fingers put in
 mod free; // free words, read and written
+mod halving; // a search by halving
 mod keys; // keys of children compared
 mod layout; // where the aids stand
 mod order; // the order of the blocks

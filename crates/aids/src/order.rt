@@ -2,7 +2,7 @@
 ghost use Rattle.std.specs.Prelude.{◌+◌, ◌<◌, ◌^◌};
 ghost use Rattle.aids.specs.Kept.{free_from, Kept};
 
-use crate::{Among, blocks, free, keys, layout};
+use crate::{Among, blocks, free, halving, keys, layout};
 
 // How many blocks there are.
 pub(crate) fn count(words: &[u32], aids: u32) -> u32
@@ -47,15 +47,9 @@ fn is_not_above(words: &[u32], among: Among, entry: u32, tag: u64) -> bool {
 pub(crate) fn find(words: &[u32], among: Among, tag: u64) -> u32
     ensures { result < 2 ^ 31 }
 {
-    let mut low = 0;
-    let mut n = count(words, among.aids);
-    while 1 < n {
-        let half = n / 2;
-        let up = is_not_above(words, among, low + half, tag);
-        low = blocks::raised(up, low, half);
-        n -= half;
-    }
-    low
+    halving::last_held(count(words, among.aids), |entry| {
+        is_not_above(words, among, entry, tag)
+    })
 }
 
 // Whether an entry stands at a key of the parent or before it.
@@ -67,26 +61,19 @@ fn is_not_after(
     tag: u64,
     name: &[u8],
 ) -> bool {
-    if free::read_tag(words, layout::entry_at(among.aids, entry)) == tag {
-        if parent(words, among.aids, entry) == among.parent {
-            let first = blocks::child(words, block(words, among.aids, entry), 0);
-            return keys::is_not_after(words, text, first, tag, name);
-        }
+    let own = free::read_tag(words, layout::entry_at(among.aids, entry));
+    if own == tag && parent(words, among.aids, entry) == among.parent {
+        let first = blocks::child(words, block(words, among.aids, entry), 0);
+        return keys::is_not_after(words, text, first, tag, name);
     }
     is_not_above(words, among, entry, tag)
 }
 
 // The last entry that is not after a key of the parent, or the first.
 pub(crate) fn find_tied(words: &[u32], text: &[u8], among: Among, tag: u64, name: &[u8]) -> u32 {
-    let mut low = 0;
-    let mut n = count(words, among.aids);
-    while 1 < n {
-        let half = n / 2;
-        let up = is_not_after(words, text, among, low + half, tag, name);
-        low = blocks::raised(up, low, half);
-        n -= half;
-    }
-    low
+    halving::last_held(count(words, among.aids), |entry| {
+        is_not_after(words, text, among, entry, tag, name)
+    })
 }
 
 // Puts an entry for one more block at a place of the order.

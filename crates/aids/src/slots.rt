@@ -20,9 +20,12 @@ pub fn clear(words: &mut [u32], aids: u32, n: u32)
     free::write(words, aids, layout::slot_at(aids, n), 0);
 }
 
-// The child that was touched last, or 0.
-pub fn last(words: &[u32], among: Among) -> u32 {
-    free::read(words, layout::slot_at(among.aids, among.parent)) % NOTE
+// The child that was touched last.
+pub fn last(words: &[u32], among: Among) -> Option<u32> {
+    match free::read(words, layout::slot_at(among.aids, among.parent)) % NOTE {
+        0 => None,
+        child => Some(child),
+    }
 }
 
 fn note(words: &[u32], among: Among) -> u32
@@ -63,10 +66,7 @@ pub fn set_last(words: &mut [u32], among: Among, child: u32)
 fn note_near(words: &[u32], among: Among) -> u32
     ensures { result < 8 }
 {
-    if has_many(words, among) {
-        return MANY;
-    }
-    0
+    if has_many(words, among) { MANY } else { 0 }
 }
 
 // Notes a child that was come to without the fingers.
@@ -82,15 +82,11 @@ pub fn set_near(words: &mut [u32], among: Among, child: u32)
 fn note_by_fingers(words: &[u32], among: Among, child: u32) -> u32
     ensures { result < 8 }
 {
-    let before = last(words, among);
-    if keys::next(words, before) == child {
+    if last(words, among).is_some_and(|before| keys::next(words, before) == child) {
         return MANY;
     }
     let misses = note(words, among) % MANY;
-    if misses < MISSES {
-        return MANY + misses + 1;
-    }
-    MANY + MISSES
+    MANY + MISSES.min(misses + 1)
 }
 
 // Notes a child that was come to by the fingers.

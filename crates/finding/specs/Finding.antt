@@ -1,5 +1,5 @@
 -- A key looked for among the children of a Map by its tag and its bytes, with the aids.
-use Rattle.std.specs.Prelude.{ℕ, ◌<◌, ◌≡◌, cond, List, ltb, Option, Some, None}
+use Rattle.std.specs.Prelude.{ℕ, ◌<◌, ◌≡◌, cond, List, ltb, Option, IfSome}
 use Rattle.key.specs.Keys.{Key, int, str}
 use Rattle.row.specs.Row.{kind_word, map_kind}
 use Rattle.row.specs.Words.{word}
@@ -21,5 +21,4 @@ pub record Asked (ws text : List ℕ) (among : Among) (tag : ℕ) (name : List �
 
 -- A try tells the position, or nothing.
 abbrev pub Tells : Position → Option Position → Type 0
-Tells p (Some q) = q ≡ p
-Tells p None = Unit {0}
+Tells p answer = IfSome answer (λ q. q ≡ p)

@@ -10,9 +10,10 @@
 ghost use Rattle.std.specs.Prelude.{◌≡◌, ◌≢◌, true, false, IfSome, length, set, ◌+◌, ◌≤◌, ◌<◌};
 ghost use Rattle.row.specs.Row.{kind_word, child_word, map_kind};
 ghost use Rattle.row.specs.Words.{record_count, word};
-ghost use Rattle.tags.specs.Tags.{Sought};
+ghost use Rattle.tags.specs.Tags.{ordering_of, Sought};
 ghost use Rattle.aids.specs.Kept.{free_from, no_aids, Kept};
-ghost use Rattle.records.specs.Keys.{sought_key};
+ghost use Rattle.records.specs.Records.{key_words_at};
+ghost use Rattle.records.specs.Keys.{InText, sought_key};
 ghost use Rattle.records.specs.Siblings.{chain, children, standing, seek, found, position, last_of, ChainEnds};
 ghost use Rattle.records.specs.Siblings.{Linked, WellFormed, ForSome, Walking};
 ghost use Rattle.finding.specs.Aids.{ChildOf, Aided, Ready, parent_index, aids_for};
@@ -20,16 +21,16 @@ ghost use Rattle.finding.specs.Finding.{tagged_key, Asked, Tells};
 
 use aids::{Among, fingers, slots};
 use key::KeyKind;
-use records::siblings::{Gap, Position};
+use records::siblings::{Position, Siblings};
 use records::{keys, siblings};
 use std::cmp::Ordering;
 
 // Siblings looked through from the slot's child on, from the first on, and from a finger's child on.
-const BESIDE: u32 = 2;
+const BESIDE: usize = 2;
 
-const FIRST: u32 = 16;
+const FIRST: usize = 16;
 
-const FROM_FINGER: u32 = 8;
+const FROM_FINGER: usize = 8;
 
 // Where a walk along siblings stands: at one, behind another, 0 standing for none.
 #[derive(Clone, Copy)]
@@ -38,13 +39,15 @@ pub struct Walk {
     pub cur: u32,
 }
 
-// Whether the aids know record c as a child of the parent.
-fn is_child(words: &[u32], among: Among, c: u32) -> bool
+// The record that is proposed, if the aids know it as a child of the parent.
+fn known(words: &[u32], among: Among, proposed: Option<u32>) -> Option<u32>
     requires { Aided words.now among.used among.aids × (among.aids ≢ no_aids) }
-    ensures { result ≡ true → ChildOf words.now among.parent c }
+    ensures { IfSome result (ChildOf words.now among.parent) }
 {
-    (1..among.used).contains(&c)
-        && words[among.aids as usize * row::WIDTH + c as usize] == among.parent
+    let c = proposed?;
+    let is_child = (1..among.used).contains(&c)
+        && words[among.aids as usize * row::WIDTH + c as usize] == among.parent;
+    if is_child { Some(c) } else { None }
 }
 
 // The position of a key in the rest of a walk, if it is among so many siblings.
@@ -52,7 +55,7 @@ fn walk_some(
     words: &[u32],
     text: &[u8],
     walk: Walk,
-    steps: u32,
+    most: usize,
     tag: u64,
     name: &[u8],
 ) -> Option<Position>
@@ -61,28 +64,18 @@ fn walk_some(
     ensures { Tells (seek (standing words.now text.now (tagged_key tag name.now))
         walk.prev (chain words.now (record_count words.now) walk.cur)) result }
 {
-    let mut prev = walk.prev;
-    let mut cur = walk.cur;
-    let mut left = steps;
-    while cur != 0 {
-        if left == 0 {
-            return None;
-        }
-        left -= 1;
-        match keys::compare_tagged(words, text, cur, tag, name) {
-            Ordering::Less => {
-                prev = cur;
-                cur = row::get_word(words, cur, row::NEXT);
-            }
-            Ordering::Equal => {
-                return Some(Ok(cur));
-            }
-            Ordering::Greater => {
-                return Some(Err(Gap { prev, next: cur }));
-            }
-        }
-    }
-    Some(Err(Gap { prev, next: 0 }))
+    let siblings = Siblings::starting(words, walk.cur);
+    siblings::place_within(
+        siblings,
+        most,
+        walk.prev,
+        |n| -> Ordering
+            requires { (n < record_count words.now) × InText text.now (key_words_at words.now n)
+                × Sought (tagged_key tag name.now) tag name.now }
+            ensures { ordering_of result ≡ standing words.entry.now text.entry.now
+                (tagged_key tag name.entry.now) n }
+        { keys::compare_tagged(words, text, n, tag, name) },
+    )
 }
 
 // The position of a key in the rest of a walk.
@@ -92,23 +85,17 @@ fn walk_all(words: &[u32], text: &[u8], walk: Walk, tag: u64, name: &[u8]) -> Po
     ensures { result ≡ seek (standing words.now text.now (tagged_key tag name.now))
         walk.prev (chain words.now (record_count words.now) walk.cur) }
 {
-    let mut prev = walk.prev;
-    let mut cur = walk.cur;
-    while cur != 0 {
-        match keys::compare_tagged(words, text, cur, tag, name) {
-            Ordering::Less => {
-                prev = cur;
-                cur = row::get_word(words, cur, row::NEXT);
-            }
-            Ordering::Equal => {
-                return Ok(cur);
-            }
-            Ordering::Greater => {
-                return Err(Gap { prev, next: cur });
-            }
-        }
-    }
-    Err(Gap { prev, next: 0 })
+    let siblings = Siblings::starting(words, walk.cur);
+    siblings::place(
+        siblings,
+        walk.prev,
+        |n| -> Ordering
+            requires { (n < record_count words.now) × InText text.now (key_words_at words.now n)
+                × Sought (tagged_key tag name.now) tag name.now }
+            ensures { ordering_of result ≡ standing words.entry.now text.entry.now
+                (tagged_key tag name.entry.now) n }
+        { keys::compare_tagged(words, text, n, tag, name) },
+    )
 }
 
 // A walk from the first child on.
@@ -118,42 +105,41 @@ fn walk_first(words: &[u32], text: &[u8], among: Among, tag: u64, name: &[u8]) -
         words.now text.now 0 (word words.now among.parent child_word)
         result.prev result.cur }
 {
-    let first = row::get_word(words, among.parent, row::CHILD);
     Walk {
         prev: 0,
-        cur: first,
+        cur: row::get_word(words, among.parent, row::CHILD),
     }
 }
 
 // A walk from a child that is proposed on, if it is one and its key does not stand behind the key, else from the first.
-fn walk_from(words: &[u32], text: &[u8], among: Among, child: u32, tag: u64, name: &[u8]) -> Walk
+fn walk_from(
+    words: &[u32],
+    text: &[u8],
+    among: Among,
+    proposed: Option<u32>,
+    tag: u64,
+    name: &[u8],
+) -> Walk
     requires asked { Asked words.now text.now among tag name.now }
     requires aided { among.aids ≢ no_aids }
     ensures { Walking (standing words.now text.now (tagged_key tag name.now))
         words.now text.now 0 (word words.now among.parent child_word)
         result.prev result.cur }
 {
-    if is_child(words, among, child) {
-        match keys::compare_tagged(words, text, child, tag, name) {
-            Ordering::Less => {
-                let next = row::get_word(words, child, row::NEXT);
-                return Walk {
-                    prev: child,
-                    cur: next,
-                };
-            }
-            Ordering::Equal => {
-                return Walk {
-                    prev: 0,
-                    cur: child,
-                };
-            }
-            Ordering::Greater => {
-                return walk_first(words, text, among, tag, name);
-            }
-        }
+    let Some(child) = known(words, among, proposed) else {
+        return walk_first(words, text, among, tag, name);
+    };
+    match keys::compare_tagged(words, text, child, tag, name) {
+        Ordering::Less => Walk {
+            prev: child,
+            cur: row::get_word(words, child, row::NEXT),
+        },
+        Ordering::Equal => Walk {
+            prev: 0,
+            cur: child,
+        },
+        Ordering::Greater => walk_first(words, text, among, tag, name),
     }
-    walk_first(words, text, among, tag, name)
 }
 
 // The position of a key by the fingers. A long walk is noted.
@@ -164,8 +150,8 @@ fn find_by_fingers(words: &mut [u32], text: &[u8], among: Among, tag: u64, name:
         among.parent }
     ensures kept { Kept (free_from among.aids) words.old words.new }
 {
-    let child = fingers::propose(words, text, among, tag, name);
-    let walk = walk_from(words, text, among, child, tag, name);
+    let proposed = fingers::propose(words, text, among, tag, name);
+    let walk = walk_from(words, text, among, proposed, tag, name);
     match walk_some(words, text, walk, FROM_FINGER, tag, name) {
         Some(position) => position,
         None => {
@@ -215,8 +201,8 @@ pub fn find_again(
     if among.aids == aids::NO_AIDS {
         return None;
     }
-    let child = slots::last(words, among);
-    if is_child(words, among, child) && keys::has_key(words, text, child, key, name) {
+    let child = known(words, among, slots::last(words, among))?;
+    if keys::has_key(words, text, child, key, name) {
         return Some(child);
     }
     None
@@ -229,12 +215,11 @@ fn try_slot(words: &[u32], text: &[u8], among: Among, tag: u64, name: &[u8]) -> 
     ensures { Tells (position words.now text.now (tagged_key tag name.now)
         among.parent) result }
 {
-    if slots::helps(words, among) {
-        let child = slots::last(words, among);
-        let walk = walk_from(words, text, among, child, tag, name);
-        return walk_some(words, text, walk, BESIDE, tag, name);
+    if !slots::helps(words, among) {
+        return None;
     }
-    None
+    let walk = walk_from(words, text, among, slots::last(words, among), tag, name);
+    walk_some(words, text, walk, BESIDE, tag, name)
 }
 
 // The position of a key if it stands among the first children of a record that isn't known to have many.
@@ -303,14 +288,16 @@ pub fn last_child(words: &[u32], among: Among) -> u32
         × (among.parent < among.used) }
     ensures { result ≡ last_of 0 (children words.now among.parent) }
 {
-    if among.aids != aids::NO_AIDS {
-        let child = slots::last(words, among);
-        if is_child(words, among, child) {
-            let next = row::get_word(words, child, row::NEXT);
-            return siblings::last_from(words, child, next);
-        }
+    if among.aids == aids::NO_AIDS {
+        return siblings::last_child(words, among.parent);
     }
-    siblings::last_child(words, among.parent)
+    match known(words, among, slots::last(words, among)) {
+        Some(child) => {
+            let next = row::get_word(words, child, row::NEXT);
+            siblings::last_from(words, child, next)
+        }
+        None => siblings::last_child(words, among.parent),
+    }
 }
 
 // Has the aids know a new record as a child of the parent, and makes its slot empty.

@@ -1,20 +1,17 @@
 -- Lists of siblings: the loops along them, and where a search in one ends.
-use mathlib.Core.Path.{◌≡◌, refl, ap, sym, ◌∙◌}
+use mathlib.Core.Path.{◌≡◌, refl, ap, sym}
 use mathlib.Core.Logic.{◌≢◌}
 use mathlib.Core.List.{List, [], ◌∷◌}
 use Prim.Native.Nat.{ℕ, zero, suc, ◌<◌, ◌≤◌, Ordering}
 use native.Mathlib.Omega.{arith}
 use lib.ListN.{length, get_or}
 use Rattle.std.specs.Prelude.{All}
-use Rattle.std.specs.declared.cmp.Ordering.{Ordering as KeyOrdering}
-use Rattle.std.specs.declared.cmp.Ordering.TheVariants.{Less, Equal, Greater}
 use Rattle.records.specs.declared.siblings.Gap.{Gap}
 use Rattle.row.specs.Row.{child_word, next_word}
 use Rattle.row.specs.Words.{record_count, word}
 use Rattle.records.specs.Records.{key_words_at}
 use Rattle.records.specs.Keys.{InText}
-use Rattle.tags.specs.Tags.{ordering_of}
-use Rattle.records.specs.Siblings.{chain, children, last_of, seek, Within, Ends, ChainEnds, Linked, WellFormed, ForSome, Walking, found, between}
+use Rattle.records.specs.Siblings.{chain, children, last_of, seek, Within, Ends, ChainEnds, Linked, WellFormed, found, between}
 
 pub chain-end : (ws : List ℕ) (f : ℕ) → chain ws f 0 ≡ []
 unfolding chain
@@ -91,70 +88,6 @@ module _ (ws : List ℕ) {used cur : ℕ} (e : ChainEnds ws used cur) (n : cur �
 
   pub ends_next : ChainEnds ws used (word ws cur next_word)
   ends_next = record { within = parts.2; few = omega (arith, chain_falls, e.few) }
-
-module _ {stands : ℕ → Ordering} {ws text : List ℕ} {before start prev cur : ℕ} (v : Walking stands ws text before start prev cur) where
-  abbrev pub walking_ends : ChainEnds ws v.among.used cur
-  walking_ends = v.among.holds.1
-
-  module _ (n : cur ≢ 0) where
-    pub walking_record : cur < record_count ws
-    walking_record = omega (arith, is_record ws walking_ends n, v.among.holds.0.links.room)
-
-    pub walking_key : InText text (key_words_at ws cur)
-    walking_key = v.among.holds.0.keys cur (is_record ws walking_ends n)
-
-    pub walking_falls : length (chain ws (record_count ws) (word ws cur next_word)) < length (chain ws (record_count ws) cur)
-    walking_falls = chain_falls ws walking_ends n
-
-    on : seek stands prev (cur ∷ chain ws (record_count ws) (word ws cur next_word)) ≡ seek stands before (chain ws (record_count ws) start)
-    on = rw (step ws walking_ends n) at v.so_far
-
-    -- By the answer o of `compare_key`.
-    module _ {o : KeyOrdering} (e : ordering_of o ≡ stands cur) where
-      pub walking_on : o ≡ Less → Walking stands ws text before start cur (word ws cur next_word)
-      unfolding seek
-      walking_on f =
-          record {
-            among = record { used = v.among.used; holds = (v.among.holds.0, ends_next ws walking_ends n) };
-            so_far = rw (sym e ∙ ap ordering_of f) at on;
-          }
-
-      pub walking_found : o ≡ Equal → found cur ≡ seek stands before (chain ws (record_count ws) start)
-      unfolding seek
-      walking_found f = rw (sym e ∙ ap ordering_of f) at on
-
-      pub walking_past : o ≡ Greater → between prev cur ≡ seek stands before (chain ws (record_count ws) start)
-      unfolding seek
-      walking_past f = rw (sym e ∙ ap ordering_of f) at on
-
-  pub walking_end : cur ≡ 0 → between prev 0 ≡ seek stands before (chain ws (record_count ws) start)
-  unfolding seek
-  walking_end e = rw (e, chain-end ws (record_count ws)) at v.so_far
-
--- The loop of `last_from`: the last of the rest of the list is the last of the whole.
-pub record Passing (ws : List ℕ) (last prev cur : ℕ) : Type 0 where
-  pub among : ForSome (λ used. Linked ws used × ChainEnds ws used cur)
-  pub so_far : last_of prev (chain ws (record_count ws) cur) ≡ last
-
-module _ {ws : List ℕ} {last prev cur : ℕ} (v : Passing ws last prev cur) where
-  abbrev passing_ends : ChainEnds ws v.among.used cur
-  passing_ends = v.among.holds.1
-
-  pub passing_record : cur ≢ 0 → cur < record_count ws
-  passing_record n = omega (arith, is_record ws passing_ends n, v.among.holds.0.room)
-
-  pub passing_falls : cur ≢ 0 → length (chain ws (record_count ws) (word ws cur next_word)) < length (chain ws (record_count ws) cur)
-  passing_falls n = chain_falls ws passing_ends n
-
-  pub passing_on : cur ≢ 0 → Passing ws last cur (word ws cur next_word)
-  passing_on n =
-      record {
-        among = record { used = v.among.used; holds = (v.among.holds.0, ends_next ws passing_ends n) };
-        so_far = rw (step ws passing_ends n) at v.so_far;
-      }
-
-  pub passing_end : cur ≡ 0 → prev ≡ last
-  passing_end e = rw (e, chain-end ws (record_count ws)) at v.so_far
 
 within_lower : (lo hi : ℕ) (ms : List ℕ) → Within lo hi ms → Within 0 hi ms
 within_lower lo hi [] h = tt

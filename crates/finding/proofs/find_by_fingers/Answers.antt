@@ -6,16 +6,16 @@ use Rattle.finding.proofs.find_by_fingers.Goals as goal
 
 pub walk_from-walk-requires : goal.walk_from-walk-requires
 walk_from-walk-requires c =
-    record { asked = asked-kept c.requires.asked c.propose-child.ensures; aided = c.requires.aided }
+    record { asked = asked-kept c.requires.asked c.propose-proposed.ensures; aided = c.requires.aided }
 
 pub returns-in-Some : goal.returns-in-Some
 returns-in-Some c =
     record {
       position = tell _ _ _ c.walk_some.ensures c.in-Some.is ∙ c.walk_from-walk.ensures.so_far ∙ asked-position
-          c.requires.asked c.propose-child.ensures _;
-      kept = c.propose-child.ensures;
+          c.requires.asked c.propose-proposed.ensures _;
+      kept = c.propose-proposed.ensures;
     }
 
 pub returns-in-None : goal.returns-in-None
 returns-in-None c =
-    record { position = c.walk_all-position.ensures ∙ c.walk_from-walk.ensures.so_far ∙ asked-position c.requires.asked c.propose-child.ensures _; kept = kept_trans c.propose-child.ensures c.walk_far.ensures }
+    record { position = c.walk_all-position.ensures ∙ c.walk_from-walk.ensures.so_far ∙ asked-position c.requires.asked c.propose-proposed.ensures _; kept = kept_trans c.propose-proposed.ensures c.walk_far.ensures }

@@ -1,37 +1,16 @@
-use native.Mathlib.Omega.{arith}
-use mathlib.Core.Path.{refl}
-use Rattle.records.proofs.Chains.{walking_record, walking_key, walking_falls, walking_on, walking_found, walking_past, walking_end}
+-- The siblings are compared one after the other.
+use Rattle.records.specs.Siblings.{standing}
+use Rattle.records.proofs.Chains.{asked-each}
+use Rattle.finding.specs.Finding.{tagged_key}
 use Rattle.finding.proofs.walk_all.Goals as goal
 
-pub loop-cur-init : goal.loop-cur-init
-loop-cur-init c = record { among = c.requires.well_formed; so_far = refl }
-
-pub compare_tagged-requires : goal.compare_tagged-requires
-compare_tagged-requires c = (walking_record c.loop-cur.invariant c.loop-cur-test.true, walking_key c.loop-cur.invariant c.loop-cur-test.true)
-
-pub get_word-cur-requires : goal.get_word-cur-requires
-get_word-cur-requires c =
-    (walking_record c.loop-cur.invariant c.loop-cur-test.true, omega arith)
-
-pub loop-cur-smaller : goal.loop-cur-smaller
-loop-cur-smaller c =
-    rw c.get_word-cur.ensures (walking_falls c.loop-cur.invariant c.loop-cur-test.true)
-
-pub loop-cur-preserved : goal.loop-cur-preserved
-loop-cur-preserved c =
-    rw c.get_word-cur.ensures
-    (walking_on c.loop-cur.invariant c.loop-cur-test.true (c.compare_tagged.ensures _ c.requires.sought)
-    c.in-Less.is)
-
-pub returns-in-Equal : goal.returns-in-Equal
-returns-in-Equal c =
-    walking_found c.loop-cur.invariant c.loop-cur-test.true (c.compare_tagged.ensures _ c.requires.sought)
-    c.in-Equal.is
-
-pub returns-in-Greater : goal.returns-in-Greater
-returns-in-Greater c =
-    walking_past c.loop-cur.invariant c.loop-cur-test.true (c.compare_tagged.ensures _ c.requires.sought)
-    c.in-Greater.is
+pub place-requires : goal.place-requires
+place-requires c =
+    λ k d i. let known = c.requires.well_formed.holds in
+    let asked = asked-each known.0 _ _ c.starting-siblings.ensures known.1 k d i in
+    (asked.0, asked.1, c.requires.sought)
 
 pub returns : goal.returns
-returns c = walking_end c.loop-cur.invariant c.loop-cur-test.false
+returns c =
+    rw c.starting-siblings.ensures at
+    (c.place.ensures (standing c.args.words.now c.args.text.now (tagged_key c.args.tag c.args.name.now)) (λ k d i o p. p))

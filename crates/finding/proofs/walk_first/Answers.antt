@@ -3,4 +3,4 @@ use Rattle.finding.proofs.Finds.{asked-first}
 use Rattle.finding.proofs.walk_first.Goals as goal
 
 pub returns : goal.returns
-returns c = rw c.get_word-first.ensures (asked-first c.requires)
+returns c = rw c.get_word.ensures (asked-first c.requires)
