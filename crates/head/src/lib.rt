@@ -2,138 +2,73 @@
 // is specs/Heads. Below it stand digits and texts as bytes (ascii) and laws.
 #![tactic(auto)]
 
-ghost use Rattle.std.specs.Prelude.{◌≡◌, true, ◌-◌, ◌<◌, ◌≤◌, length, get_or};
-ghost use Rattle.ascii.specs.Bytes.{zero};
-ghost use Rattle.ascii.specs.Digits.{all_digits, value_from};
-ghost use Rattle.head.specs.Heads.{begins, leading_digits, is_depth, flag_in, depth_in, head_of};
+ghost use Rattle.std.specs.Prelude.{◌≡◌, ◌-◌, ◌≤◌, true, length};
+ghost use Rattle.ascii.specs.Bytes.{zero, nine};
+ghost use Rattle.ascii.specs.Digits.{all_digits};
+ghost use Rattle.head.specs.Heads.{leading_digits, depth_of, flag_in, depth_in, head_of};
 
-// The settings of a reading and where the query string, READING's ticket, starts; or that the head is bad.
+// The settings of a reading and where the query string, READING's ticket, starts.
 #[derive(Clone, Copy)]
-pub enum Head {
-    Bad,
-    Good {
-        depth: usize,
-        form: bool,
-        start: usize,
-    },
-}
-
-// Whether bytes begin with a text.
-fn begins(text: &[u8], bytes: &[u8]) -> bool
-    ensures { result ≡ begins text.now bytes.now }
-{
-    let mut i = 0;
-    while i < text.len() {
-        if bytes.len() <= i {
-            return false;
-        }
-        if text[i] != bytes[i] {
-            return false;
-        }
-        i += 1;
-    }
-    true
+pub struct Head {
+    pub depth: usize,
+    pub form: bool,
+    pub start: usize,
 }
 
 // The number of digits that bytes begin with.
 fn count_digits(bytes: &[u8]) -> usize
-    ensures { (result ≡ length (leading_digits bytes.now)) × (result ≤ length bytes.now) }
+    ensures { result ≡ length (leading_digits bytes.now) }
 {
-    let mut i = 0;
-    while i < bytes.len() {
-        let b = bytes[i];
-        if b < b'0' {
-            return i;
-        }
-        if b'9' < b {
-            return i;
-        }
-        i += 1;
-    }
-    i
+    bytes.iter().take_while(|b| b.is_ascii_digit()).count()
 }
 
-// Whether digits can be a depth: there is one, or there are up to three and the first is no zero.
-fn is_depth(digits: &[u8]) -> bool
-    ensures { result ≡ is_depth digits.now }
+// The value of a digit.
+fn digit(b: u8) -> usize
+    requires { (zero ≤ b) × (b ≤ nine) }
+    ensures { (result ≡ b - zero) × (result ≤ 9) }
 {
-    let n = digits.len();
-    if n == 0 {
-        return false;
-    }
-    if 3 < n {
-        return false;
-    }
-    if n == 1 {
-        return true;
-    }
-    digits[0] != b'0'
+    usize::from(b - b'0')
 }
 
-// The value of digit i.
-fn digit_at(digits: &[u8], i: usize) -> usize
-    requires { (all_digits digits.now ≡ true) × (i < length digits.now) }
-    ensures { (result ≡ get_or digits.now i 0 - zero) × (result ≤ 9) }
+// The depth that digits write: one digit, or two or three of which the first is no zero.
+fn depth_of(digits: &[u8]) -> Option<usize>
+    requires { all_digits digits.now ≡ true }
+    ensures { result ≡ depth_of digits.now }
 {
-    (digits[i] - b'0') as usize
-}
-
-// The value of one to three digits.
-fn depth_value(digits: &[u8]) -> usize
-    requires { (all_digits digits.now ≡ true) × (0 < length digits.now) × (length digits.now ≤ 3) }
-    ensures { result ≡ value_from 0 digits.now }
-{
-    let first = digit_at(digits, 0);
-    if digits.len() == 1 {
-        return first;
+    match *digits {
+        [a] => Some(digit(a)),
+        [a, b] if a != b'0' => Some(digit(a) * 10 + digit(b)),
+        [a, b, c] if a != b'0' => Some((digit(a) * 10 + digit(b)) * 10 + digit(c)),
+        _ => None,
     }
-    let second = first * 10 + digit_at(digits, 1);
-    if digits.len() == 2 {
-        return second;
-    }
-    second * 10 + digit_at(digits, 2)
 }
 
 // The head whose depth and start of the query string are known, by its flag.
-fn parse_flag(depth: usize, start: usize, bytes: &[u8]) -> Head
+fn parse_flag(depth: usize, start: usize, bytes: &[u8]) -> Option<Head>
     ensures { result ≡ flag_in depth start bytes.now }
 {
-    if begins(b"\nform=0\n", bytes) {
-        return Head::Good {
-            depth,
-            form: false,
-            start,
-        };
-    }
-    if begins(b"\nform=1\n", bytes) {
-        return Head::Good {
-            depth,
-            form: true,
-            start,
-        };
-    }
-    Head::Bad
+    let form = if bytes.starts_with(b"\nform=0\n") {
+        false
+    } else if bytes.starts_with(b"\nform=1\n") {
+        true
+    } else {
+        return None;
+    };
+    Some(Head { depth, form, start })
 }
 
 // The head, from its depth on.
-fn parse_depth(bytes: &[u8]) -> Head
+fn parse_depth(bytes: &[u8]) -> Option<Head>
     ensures { result ≡ depth_in bytes.now }
 {
-    let n = count_digits(bytes);
-    let digits = &bytes[0..n];
-    if !is_depth(digits) {
-        return Head::Bad;
-    }
-    let depth = depth_value(digits);
-    parse_flag(depth, n + 14, &bytes[n..])
+    let (digits, rest) = bytes.split_at(count_digits(bytes));
+    let depth = depth_of(digits)?;
+    parse_flag(depth, digits.len() + 14, rest)
 }
 
-// The head of an input.
-pub fn parse_head(input: &[u8]) -> Head
+// The head of an input, and none where it is bad.
+pub fn parse_head(input: &[u8]) -> Option<Head>
     ensures { result ≡ head_of input.now }
 {
-    if !begins(b"depth=", input) {
-        return Head::Bad;
-    }
-    parse_depth(&input[6..])
+    parse_depth(input.strip_prefix(b"depth=")?)
 }

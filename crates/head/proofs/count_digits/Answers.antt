@@ -1,45 +1,16 @@
-use mathlib.Core.Path.{ap}
-use native.Mathlib.Omega.{arith}
-use lib.ListN.{length}
-use Rattle.head.proofs.Heads.{digits_low, digits-high, digits_more, digits-done}
+use Rattle.std.proofs.Common.{◌∙◌, rules, tests}
+use Rattle.std.proofs.lemmas.Iterator.{YieldsList-from_slice}
+use Rattle.std.proofs.lemmas.Iterator.Search.{YieldsList-from_take_while}
+use Rattle.std.proofs.lemmas.Iterator.Consumers.{count_from_yields_List}
+use Rattle.std.proofs.lemmas.List.Folds.{length-prefix_len}
+use Rattle.ascii.specs.Digits.{is_digit}
+use Rattle.head.proofs.Heads.{digits-counted}
 use Rattle.head.proofs.count_digits.Goals as goal
 
-pub returns-then-b-lt48 : goal.returns-then-b-lt48
-returns-then-b-lt48 c = (
-  omega (
-    arith,
-    c.loop-i.invariant.0,
-    ap length
-        (digits_low c.args.bytes.now c.loop-i.i c.loop-i-test.true c.if-b-lt48.true),
-  ),
-  c.loop-i.invariant.1,
-)
-
-pub returns-then-b-gt57 : goal.returns-then-b-gt57
-returns-then-b-gt57 c = (
-  omega (
-    arith,
-    c.loop-i.invariant.0,
-    ap length
-        (digits-high c.args.bytes.now c.loop-i.i c.loop-i-test.true c.if-b-lt48.false c.if-b-gt57.true),
-  ),
-  c.loop-i.invariant.1,
-)
-
-pub loop-i-preserved : goal.loop-i-preserved
-loop-i-preserved c = (
-  omega (
-    arith,
-    c.loop-i.invariant.0,
-    ap length
-        (digits_more c.args.bytes.now c.loop-i.i c.loop-i-test.true c.if-b-lt48.false c.if-b-gt57.false),
-  ),
-  omega
-      (arith, c.loop-i-test.true),
-)
-
 pub returns : goal.returns
-returns c = (
-  omega (arith, c.loop-i.invariant.0, ap length (digits-done c.args.bytes.now c.loop-i.i c.loop-i-test.false)),
-  c.loop-i.invariant.1,
-)
+returns c =
+    let bytes = c.args.bytes.now in
+    count_from_yields_List c.take_while.result _ c.count.ensures.ran
+    (YieldsList-from_take_while _ is_digit (YieldsList-from_slice bytes cc) c.take_while.ensures.closure c.take_while.ensures.done (λ x b q k. search (rules, tests)))
+    ∙ length-prefix_len is_digit bytes
+    ∙ digits-counted bytes

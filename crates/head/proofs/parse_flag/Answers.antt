@@ -1,24 +1,27 @@
 -- The two flags are tried in the order of the definition, and what begins with neither is bad.
-use mathlib.Core.Path.{sym, ◌∙◌}
+use Rattle.std.proofs.Common.{sym, ◌∙◌}
+use Rattle.ascii.specs.Texts.{ascii}
 use Rattle.head.specs.Heads.{flag_in}
+use Rattle.head.proofs.Heads.{begins-starts}
 use Rattle.head.proofs.parse_flag.Goals as goal
 
-pub begins-requires : goal.begins-requires
-begins-requires c = tt
-
-pub returns-then-begins : goal.returns-then-begins
+pub returns-then-starts_with : goal.returns-then-starts_with
 unfolding flag_in
-returns-then-begins c = rw (sym c.begins.ensures ∙ c.if-begins.true)
+returns-then-starts_with c =
+    rw (sym (begins-starts (ascii "\nform=0\n") c.args.bytes.now) ∙ sym c.starts_with.ensures.value ∙ c.if-starts_with.true)
 
-pub begins-requires-2 : goal.begins-requires-2
-begins-requires-2 c = tt
-
-pub returns-then-begins-2 : goal.returns-then-begins-2
+pub returns-then-starts_with-2 : goal.returns-then-starts_with-2
 unfolding flag_in
-returns-then-begins-2 c =
-    rw (sym c.begins.ensures ∙ c.if-begins.false, sym c.begins-2.ensures ∙ c.if-begins-2.true)
+returns-then-starts_with-2 c =
+    rw (
+      sym (begins-starts (ascii "\nform=0\n") c.args.bytes.now) ∙ sym c.starts_with.ensures.value ∙ c.if-starts_with.false,
+      sym (begins-starts (ascii "\nform=1\n") c.args.bytes.now) ∙ sym c.starts_with-else-starts_with.ensures.value ∙ c.if-starts_with-2.true,
+    )
 
-pub returns : goal.returns
+pub returns-else-starts_with-2 : goal.returns-else-starts_with-2
 unfolding flag_in
-returns c =
-    rw (sym c.begins.ensures ∙ c.if-begins.false, sym c.begins-2.ensures ∙ c.if-begins-2.false)
+returns-else-starts_with-2 c =
+    rw (
+      sym (begins-starts (ascii "\nform=0\n") c.args.bytes.now) ∙ sym c.starts_with.ensures.value ∙ c.if-starts_with.false,
+      sym (begins-starts (ascii "\nform=1\n") c.args.bytes.now) ∙ sym c.starts_with-else-starts_with.ensures.value ∙ c.if-starts_with-2.false,
+    )
