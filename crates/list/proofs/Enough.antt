@@ -18,7 +18,6 @@ use Rattle.ascii.specs.Digits.{is_digit, value_from}
 use Rattle.ascii.specs.Texts.{ascii}
 use Rattle.reading.specs.Reading.{read, reading}
 use Rattle.head.specs.declared.Head.{Head}
-use Rattle.head.specs.declared.Head.TheVariants.{Bad, Good}
 use Rattle.listing.specs.Listing.{listing}
 use Rattle.head.specs.Heads.{begins, leading_digits, flag_in, depth_in, head_of}
 use Rattle.head.proofs.Heads.{Inside, head_inside, depth_four}
@@ -95,11 +94,11 @@ pub enough : Enough
 enough first rest words text h =
     ap (λ head. reply_to head (first ++ rest) words text) (head_front first rest (omega arith)) ∙ go (head_of first) (head_early first (omega arith))
   where
-    go : (head : Head) → Inside longest_head head → reply_to head (first ++ rest) words text ≡ reply_to head first words text
-    go Bad i = refl
-    go (Good depth form start) i =
-        ap listing (too_long (settings depth form false) (drop start (first ++ rest)) (drop start first) words text
-        (omega (arith, length-drop start (first ++ rest), length-append first rest)) (omega (arith, length-drop start first)))
+    go : (head : Option Head) → Inside longest_head head → reply_to head (first ++ rest) words text ≡ reply_to head first words text
+    go None i = refl
+    go (Some good) i =
+        ap listing (too_long (settings good.depth good.form false) (drop good.start (first ++ rest)) (drop good.start first) words text
+        (omega (arith, length-drop good.start (first ++ rest), length-append first rest)) (omega (arith, length-drop good.start first)))
 
 -- So the reply to what was read is the reply to all that there is to read.
 whole : (from rest before after : Option (List ℕ)) (first words text : List ℕ) → Consumes from rest first → (length first < read_bytes → IsAtEnd rest)

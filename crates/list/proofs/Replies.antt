@@ -1,4 +1,5 @@
 -- What the program writes fits its output, and so is written whole.
+use Rattle.std.proofs.Common.{Option, Some}
 use mathlib.Core.Path.{◌≡◌, sym, ap, subst, ◌∙◌}
 use mathlib.Core.Bool.{Bool}
 use mathlib.Core.List.{List, ◌++◌}
@@ -18,7 +19,6 @@ use Rattle.parse.specs.declared.Parsed.{Parsed}
 use Rattle.parse.specs.Outcomes.{answer_of, outcome_of}
 use Rattle.output.specs.declared.Written.{Written}
 use Rattle.head.specs.declared.Head.{Head}
-use Rattle.head.specs.declared.Head.TheVariants.{Good}
 use Rattle.listing.specs.Bounded.{bounded_listing, outcome_from}
 use Rattle.output.specs.Output.{answer_for, filled}
 use Rattle.head.specs.Heads.{head_of}
@@ -79,5 +79,5 @@ module _ (config : Config) (input words text out : List ℕ) (lent : LentSlices 
       (written (bounded_listing o) out out' answered output count (subst (λ bytes. length bytes ≤ length out) (sym whole) long))
 
 -- The query string starts inside the input.
-pub start-inside : (input : List ℕ) {head : Head} {depth start : ℕ} {form : Bool} → head ≡ head_of input → head ≡ Good depth form start → start ≤ length input
+pub start-inside : (input : List ℕ) {told : Option Head} {head : Head} → told ≡ head_of input → told ≡ Some head → head.start ≤ length input
 start-inside input told e = subst (Inside (length input)) (sym told ∙ e) (head_inside input)

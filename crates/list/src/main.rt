@@ -12,7 +12,6 @@ ghost use Rattle.list.specs.Reply.{reply};
 ghost use Rattle.list.specs.Lending.{read_bytes, LentSlices, counted, WroteAll};
 
 use config::Config;
-use head::Head;
 use output::Written;
 use std::io;
 use std::io::{Read, Write};
@@ -63,11 +62,11 @@ fn respond(input: &[u8], words: &mut [u32], text: &mut [u8], out: &mut [u8]) -> 
         out.old out.new result }
 {
     match head::parse_head(input) {
-        Head::Bad => count(listing::list_bad_head(out)),
-        Head::Good { depth, form, start } => {
+        None => count(listing::list_bad_head(out)),
+        Some(head) => {
             respond_to(
-                &input[start..],
-                Config::with(depth, form, false),
+                &input[head.start..],
+                Config::with(head.depth, head.form, false),
                 words,
                 text,
                 out,
