@@ -15,15 +15,18 @@ use Rattle.reading.specs.Reading.{Outcome, lent_by, outcome, Read, passed, met, 
 use Rattle.reading.proofs.Laying.{laid_more}
 use Rattle.reading.proofs.Outcomes.{Sound}
 use Rattle.records.proofs.Forests.{indicator-same}
-use Rattle.parse.specs.declared.Parsed.{Parsed}
-use Rattle.parse.specs.Outcomes.{answer_of, outcome_of as parsed_outcome}
+use Rattle.std.specs.Prelude.{Result}
+use Rattle.refusals.specs.declared.Refusal.{Refusal}
+use Rattle.reading.specs.declared.Used.{Used as UsedThere}
+use Rattle.reading.specs.declared.Refused.{Refused}
+use Rattle.reading.specs.Results.{answer_of}
+use Rattle.parse.specs.Outcomes.{outcome_of as parsed_outcome}
 use Rattle.fields.specs.declared.DuplicateKeyBehavior.{DuplicateKeyBehavior}
 use Rattle.de.specs.declared.FieldRead.{FieldRead}
-use Rattle.fields.specs.declared.text.TextRead.{TextRead}
-use Rattle.fields.specs.declared.list.ListRead.{ListRead}
+use Rattle.fields.specs.declared.text.Text.{Text}
 use Rattle.fields.specs.Fields.{root_field}
 use Rattle.fields.specs.Texts.{text_of_field, text_named}
-use Rattle.fields.specs.Lists.{ListResult, list_of_field}
+use Rattle.fields.specs.Lists.{Listed, list_of_field}
 use Rattle.de.specs.Reads.{TextOutcome, ListOutcome, leaving, unread, text_answer, text_after, text_read, list_outcome, list_after, left_in, unlisted, list_read}
 use Rattle.de.specs.ListReads.{element_count, list_read_answer, left_by}
 use Rattle.de.specs.FieldsReads.{FieldsOutcome, unanswered, fields_after}
@@ -67,7 +70,7 @@ module _ (words text : List ℕ) {v : Node} {u : Used} (s : Sound (lent_by words
   few-found d name size = few d size name v.value (omega (arith, (stores words text v u s).holds.sized))
 
 -- The ends of the public calls, by the number that the reading answers: parse's answer as the four numbers, and what it leaves.
-module _ (config : Config) (input words text W X : List ℕ) (p : Parsed) {reading : Reading} (told : reading ≡ answer_of p)
+module _ (config : Config) (input words text W X : List ℕ) (p : Result UsedThere Refused) {reading : Reading} (told : reading ≡ answer_of p)
     (ensured : parsed_outcome p W X ≡ outcome_of (read config input words text)) where
   -- It accepts.
   module _ (z : reading.number ≡ 0) where
@@ -80,17 +83,17 @@ module _ (config : Config) (input words text W X : List ℕ) (p : Parsed) {readi
     pub readable_after : Readable W X × (0 < record_count W)
     readable_after = by (λ r y. Readable y.words y.text × (0 < record_count y.words)) (λ v u s. can_read words text s)
 
-    pub few-listed : (d : DuplicateKeyBehavior) (name : List ℕ) (size : ℕ) {l : List ℕ} {r : ListRead}
+    pub few-listed : (d : DuplicateKeyBehavior) (name : List ℕ) (size : ℕ) {l : List ℕ} {r : Result ℕ Refusal}
         → Writes size l (field_list_at d W X size (field_at W X name)) r → element_count r ≤ reading.records
     few-listed d name size {l} {r} =
         by (λ q y. Writes size l (field_list_at d y.words y.text size (field_at y.words y.text name)) r → element_count r ≤ y.answer.records)
-        (λ v u s h. go (few-found words text s d name size) (subst (λ (y : ListResult). Writes size l y r) (list-found words text s d name size) h))
+        (λ v u s h. go (few-found words text s d name size) (subst (λ (y : Result Listed Refusal). Writes size l y r) (list-found words text s d name size) h))
       where
-        go : {n : ℕ} {whole : ListResult} {q : ListRead} → FewElements n whole → Writes size l whole q → element_count q ≤ n
+        go : {n : ℕ} {whole : Result Listed Refusal} {q : Result ℕ Refusal} → FewElements n whole → Writes size l whole q → element_count q ≤ n
         go f (wrote h) = f
         go f (stopped h) = omega arith
 
-    pub text-accepted : (d : DuplicateKeyBehavior) (name : List ℕ) {a : FieldRead} {r : TextRead} → a ≡ text_answer reading r
+    pub text-accepted : (d : DuplicateKeyBehavior) (name : List ℕ) {a : FieldRead} {r : Result Text Refusal} → a ≡ text_answer reading r
         → r ≡ field_text_at d W X (field_at W X name)
         → ◌≡◌ {A = TextOutcome} (record { answer = a; words = W; text = X }) (text_read config d input name words text)
     unfolding text_read
@@ -101,9 +104,9 @@ module _ (config : Config) (input words text W X : List ℕ) (p : Parsed) {readi
         ≡ after r (text_after d name) unread)
         (λ v u s.
         let o = outcome (length words) (length text) (accepted v u) in
-        ap (λ (y : TextRead). leaving o (text_answer o.answer y)) (text-found words text s d name)))
+        ap (λ (y : Result Text Refusal). leaving o (text_answer o.answer y)) (text-found words text s d name)))
 
-    pub list-accepted : (d : DuplicateKeyBehavior) (name list l l' : List ℕ) {a : FieldRead} {r : ListRead} → a ≡ list_read_answer reading r
+    pub list-accepted : (d : DuplicateKeyBehavior) (name list l l' : List ℕ) {a : FieldRead} {r : Result ℕ Refusal} → a ≡ list_read_answer reading r
         → Writes (length list) l (field_list_at d W X (length list) (field_at W X name)) r → l' ≡ left_by r l
         → ◌≡◌ {A = ListOutcome} (record { read = record { answer = a; words = W; text = X }; list = l' }) (list_read config d input name words text list)
     unfolding list_read
@@ -115,9 +118,9 @@ module _ (config : Config) (input words text W X : List ℕ) (p : Parsed) {readi
         (after q (list_after d name (length list)) (unlisted list)))
         (λ v u s h.
         go (outcome (length words) (length text) (accepted v u))
-        (subst (λ (y : ListResult). Writes (length list) l y r) (list-found words text s d name (length list)) h)) g)
+        (subst (λ (y : Result Listed Refusal). Writes (length list) l y r) (list-found words text s d name (length list)) h)) g)
       where
-        go : (o : Outcome) {whole : ListResult} {q : ListRead} → Writes (length list) l whole q
+        go : (o : Outcome) {whole : Result Listed Refusal} {q : Result ℕ Refusal} → Writes (length list) l whole q
             → ◌≡◌ {A = ListOutcome} (record { read = leaving o (list_read_answer o.answer q); list = left_by q l }) (list_outcome o (length list) whole)
         go o (wrote h) = rw h
         go o (stopped h) = rw h

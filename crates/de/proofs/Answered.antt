@@ -21,11 +21,12 @@ use Rattle.reading.specs.Reading.{Outcome, lent_by, outcome, Read, after}
 use Rattle.reading.proofs.Laying.{laid_more, lies_part}
 use Rattle.reading.proofs.Outcomes.{Sound}
 use Rattle.fields.specs.declared.DuplicateKeyBehavior.{DuplicateKeyBehavior}
-use Rattle.fields.specs.declared.text.TextRead.{TextRead}
-use Rattle.fields.specs.declared.text.TextRead.TheVariants.{Text, Refused}
-use Rattle.fields.specs.Fields.{Field, found, is_named, named, root_field}
+use Rattle.std.specs.Prelude.{Result, Ok, Err}
+use Rattle.refusals.specs.declared.Refusal.{Refusal}
+use Rattle.fields.specs.declared.text.Text.{Text}
+use Rattle.fields.specs.Fields.{is_named, named, root_field}
 use Rattle.fields.specs.Texts.{single_text, last_text, several, text_of, text_of_field}
-use Rattle.fields.specs.Lists.{ListResult, listed, prepend, is_next, element_text, in_turn, child_count, elements, int_keys, list_of, list_of_field}
+use Rattle.fields.specs.Lists.{Listed, prepend, is_next, element_text, in_turn, child_count, elements, int_keys, list_of, list_of_field}
 use Rattle.lookups.specs.Each.{name_of}
 use Rattle.de.specs.Reads.{TextOutcome, leaving, unread, text_answer, text_after, text_read, list_answer, list_outcome, list_after, unlisted, list_read}
 use Rattle.de.specs.Answered.{ValidText, TextAnswered, ValidElements, ListAnswered, FieldsAnswered}
@@ -38,9 +39,9 @@ module _ (t zs : List ℕ) where
   abbrev Valid : ℕ → ℕ → Type 0
   Valid o n = (o + n ≤ length t) × Utf8 (text_part (t ++ zs) o n)
 
-  abbrev ValidRead : TextRead → Type 0
-  ValidRead (Text o n) = Valid o n
-  ValidRead (Refused x) = Unit {0}
+  abbrev ValidRead : Result Text Refusal → Type 0
+  ValidRead (Ok r) = Valid r.offset r.len
+  ValidRead (Err x) = Unit {0}
 
   single-valid : (v : Value) → Laid t v → ValidRead (single_text v)
   single-valid uninitialized h = tt
@@ -53,7 +54,7 @@ module _ (t zs : List ℕ) where
   single-valid (map cs) h = tt
   single-valid (sequence cs) h = tt
 
-  last-valid : (before : TextRead) (cs : Forest) → ValidRead before → LaidAll t cs → ValidRead (last_text before cs)
+  last-valid : (before : Result Text Refusal) (cs : Forest) → ValidRead before → LaidAll t cs → ValidRead (last_text before cs)
   last-valid before none b h = b
   last-valid before (child m l v cs) b h = last-valid (single_text v) cs (single-valid v h.1) h.2
 
@@ -63,12 +64,12 @@ module _ (t zs : List ℕ) where
   text-valid d no_value h = single-valid no_value h
   text-valid d (string o x) h = single-valid (string o x) h
   text-valid d (map cs) h = tt
-  text-valid d (sequence cs) h = split (several d cs) (λ e. rw e tt) (λ e. rw e (last-valid (Refused WrongKind) cs tt h))
+  text-valid d (sequence cs) h = split (several d cs) (λ e. rw e tt) (λ e. rw e (last-valid (Err WrongKind) cs tt h))
 
   -- The field's value is laid as the root's is.
-  abbrev LaidField : Field → Type 0
-  LaidField (found v) = Laid t v
-  LaidField (Field.refused x) = Unit {0}
+  abbrev LaidField : Result Value Refusal → Type 0
+  LaidField (Ok v) = Laid t v
+  LaidField (Err x) = Unit {0}
 
   named-laid : (name : List ℕ) (cs : Forest) → LaidAll t cs → LaidField (named name cs)
   named-laid name none h = tt
@@ -83,34 +84,34 @@ module _ (t zs : List ℕ) where
   field_laid name (map cs) h = named-laid name cs h
   field_laid name (sequence cs) h = tt
 
-  field_text-valid : (d : DuplicateKeyBehavior) (f : Field) → LaidField f → ValidRead (text_of_field d f)
-  field_text-valid d (found v) h = text-valid d v h
-  field_text-valid d (Field.refused x) h = tt
+  field_text-valid : (d : DuplicateKeyBehavior) (f : Result Value Refusal) → LaidField f → ValidRead (text_of_field d f)
+  field_text-valid d (Ok v) h = text-valid d v h
+  field_text-valid d (Err x) h = tt
 
   -- Elements one by one.
   data Pairs : ℕ → List ℕ → Type 0 where
     no-pair : Pairs 0 []
     pair : {o n k : ℕ} {words : List ℕ} → Valid o n → Pairs k words → Pairs (suc k) (o ∷ n ∷ words)
 
-  abbrev ValidListResult : ListResult → Type 0
-  ValidListResult (listed k words) = Pairs k words
-  ValidListResult (ListResult.refused x) = Unit {0}
+  abbrev ValidListed : Result Listed Refusal → Type 0
+  ValidListed (Ok l) = Pairs l.count l.words
+  ValidListed (Err x) = Unit {0}
 
-  prepend-valid : (r : TextRead) (later : ListResult) → ValidRead r → ValidListResult later → ValidListResult (prepend r later)
-  prepend-valid (Text o n) (listed k words) h g = pair h g
-  prepend-valid (Text o n) (ListResult.refused x) h g = tt
-  prepend-valid (Refused x) later h g = tt
+  prepend-valid : (r : Result Text Refusal) (later : Result Listed Refusal) → ValidRead r → ValidListed later → ValidListed (prepend r later)
+  prepend-valid (Ok r) (Ok l) h g = pair h g
+  prepend-valid (Ok r) (Err x) h g = tt
+  prepend-valid (Err x) later h g = tt
 
-  turn_valid : (d : DuplicateKeyBehavior) (i : ℕ) (cs : Forest) → LaidAll t cs → ValidListResult (in_turn d i cs)
+  turn_valid : (d : DuplicateKeyBehavior) (i : ℕ) (cs : Forest) → LaidAll t cs → ValidListed (in_turn d i cs)
   turn_valid d i none h = no-pair
   turn_valid d i (child m l v cs) h =
       prepend-valid (element_text d i l.label v) (in_turn d (suc i) cs) (split (is_next i l.label) (λ e. rw e (text-valid d v h.1)) (λ e. rw e tt))
       (turn_valid d (suc i) cs h.2)
 
-  elements-valid : (d : DuplicateKeyBehavior) (size : ℕ) (cs : Forest) → LaidAll t cs → ValidListResult (elements d size cs)
+  elements-valid : (d : DuplicateKeyBehavior) (size : ℕ) (cs : Forest) → LaidAll t cs → ValidListed (elements d size cs)
   elements-valid d size cs h = split (ltb size (2 * child_count cs)) (λ e. rw e tt) (λ e. rw e (turn_valid d 0 cs h))
 
-  list-valid : (d : DuplicateKeyBehavior) (size : ℕ) (v : Value) → Laid t v → ValidListResult (list_of d size v)
+  list-valid : (d : DuplicateKeyBehavior) (size : ℕ) (v : Value) → Laid t v → ValidListed (list_of d size v)
   list-valid d size uninitialized h = tt
   list-valid d size null h = no-pair
   list-valid d size no_value h = no-pair
@@ -118,9 +119,9 @@ module _ (t zs : List ℕ) where
   list-valid d size (map cs) h = split (int_keys cs) (λ e. rw e (elements-valid d size cs h)) (λ e. rw e tt)
   list-valid d size (sequence cs) h = elements-valid d size cs h
 
-  field_list-valid : (d : DuplicateKeyBehavior) (size : ℕ) (f : Field) → LaidField f → ValidListResult (list_of_field d size f)
-  field_list-valid d size (found v) h = list-valid d size v h
-  field_list-valid d size (Field.refused x) h = tt
+  field_list-valid : (d : DuplicateKeyBehavior) (size : ℕ) (f : Result Value Refusal) → LaidField f → ValidListed (list_of_field d size f)
+  field_list-valid d size (Ok v) h = list-valid d size v h
+  field_list-valid d size (Err x) h = tt
 
   pair-at : {k : ℕ} {words : List ℕ} (rest : List ℕ) (i : ℕ) → Pairs k words → i < k
       → Valid (get_or (words ++ rest) (2 * i) 0) (get_or (words ++ rest) (2 * i + 1) 0)
@@ -139,17 +140,17 @@ module _ (words text : List ℕ) {v : Node} {u : Used} (s : Sound (lent_by words
   abbrev spare : List ℕ
   spare = replicate (length text - length u.text) 0
 
-  answered-text : (r : TextRead) → ValidRead u.text spare r → (text_answer o.answer r).reading.number ≡ 0
+  answered-text : (r : Result Text Refusal) → ValidRead u.text spare r → (text_answer o.answer r).reading.number ≡ 0
       → ValidText (leaving o (text_answer o.answer r)) (text_answer o.answer r).offset (text_answer o.answer r).len
-  answered-text (Text a b) h e = record { inside = h.0; valid = h.1 }
-  answered-text (Refused x) h e = absurd (code-some x e)
+  answered-text (Ok r) h e = record { inside = h.0; valid = h.1 }
+  answered-text (Err x) h e = absurd (code-some x e)
 
-  answered-list : (size : ℕ) (r : ListResult) → ValidListResult u.text spare r → (list_answer o.answer r).reading.number ≡ 0
+  answered-list : (size : ℕ) (r : Result Listed Refusal) → ValidListed u.text spare r → (list_answer o.answer r).reading.number ≡ 0
       → ValidElements (list_outcome o size r)
-  answered-list size (listed k written) h e i l =
-      let p = pair-at u.text spare (replicate (size - length written) 0) i h l in
+  answered-list size (Ok r) h e i l =
+      let p = pair-at u.text spare (replicate (size - length r.words) 0) i h l in
       record { inside = p.0; valid = p.1 }
-  answered-list size (ListResult.refused x) h e i l = absurd (code-some x e)
+  answered-list size (Err x) h e i l = absurd (code-some x e)
 
 pub text-answered : TextAnswered
 unfolding text_read

@@ -17,8 +17,9 @@ use Rattle.reading.specs.Charging.{Used}
 use Rattle.reading.specs.Running.{accepted}
 use Rattle.reading.specs.Reading.{outcome, Read, passed, met, read, after, outcome_of}
 use Rattle.fields.specs.declared.DuplicateKeyBehavior.{DuplicateKeyBehavior}
-use Rattle.fields.specs.declared.text.TextRead.{TextRead}
-use Rattle.fields.specs.declared.text.TextRead.TheVariants.{Text, Refused}
+use Rattle.std.specs.Prelude.{Result, Ok, Err}
+use Rattle.refusals.specs.declared.Refusal.{Refusal}
+use Rattle.fields.specs.declared.text.Text.{Text}
 use Rattle.fields.specs.Texts.{text_named}
 use Rattle.lookups.specs.Names.{ends_fit, names_from, names_in}
 use Rattle.lookups.specs.Answers.{answer_width, answer_of, answers_of, over}
@@ -31,11 +32,11 @@ use Rattle.de.specs.SingleReads.{as_text_read, AsSingleReads, SingleReads, NoNam
 use Rattle.de.proofs.Asking.{by_asking}
 
 -- An answer's three words say what the text read does, after an accepted reading.
-read_as : (words bytes : ℕ) (v : Node) (u : Used) (t : TextRead)
+read_as : (words bytes : ℕ) (v : Node) (u : Used) (t : Result Text Refusal)
     → as_text_read (outcome words bytes (accepted v u)) (answer_of t)
     ≡ leaving (outcome words bytes (accepted v u)) (text_answer (outcome words bytes (accepted v u)).answer t)
-read_as words bytes v u (Text offset len) = refl
-read_as words bytes v u (Refused x) = refl
+read_as words bytes v u (Ok t) = refl
+read_as words bytes v u (Err x) = refl
 
 module _ (d : DuplicateKeyBehavior) (names ends words text answers : List ℕ) where
   abbrev called : Read → FieldsOutcome
@@ -48,7 +49,7 @@ module _ (d : DuplicateKeyBehavior) (names ends words text answers : List ℕ) w
   each_of : {r : Read} → Went words text r → (called r).reading.answer.number ≡ 0 → (i : ℕ) → i < length ends
       → as_text_read (called r).reading (answer_at (called r).answers i) ≡ after r (text_after d (name_of names ends i)) unread
   each_of (accepting {n = v} {u = u} s) z i h =
-      let f : List ℕ → TextRead = λ name. text_named d name v.value in
+      let f : List ℕ → Result Text Refusal = λ name. text_named d name v.value in
       let ns = names_in names ends in
       let e : answer_at (over (answers_of f ns) answers) i ≡ answer_of (f (name_of names ends i)) =
       answer_at_lem f ns (drop (length (answers_of f ns)) answers) i (omega (arith, names-length 0 names ends))

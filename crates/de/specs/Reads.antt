@@ -1,6 +1,6 @@
 -- A whole field read: what it answers, and what it leaves in the lent buffers. READING, 'Field reads'. The public
 -- contracts equate their results with `text_read` and `list_read`.
-use Rattle.std.specs.Prelude.{ℕ, ◌-◌, cond, List, ◌++◌, leb, length, replicate}
+use Rattle.std.specs.Prelude.{ℕ, ◌-◌, cond, List, ◌++◌, leb, length, replicate, Result, Ok, Err}
 use Rattle.refusals.specs.declared.Refusal.{Refusal}
 use Rattle.refusals.specs.declared.Refusal.TheVariants.{NoRecord}
 use Rattle.refusals.specs.Codes.{code}
@@ -10,11 +10,10 @@ use Rattle.reading.specs.Values.{Node}
 use Rattle.reading.specs.Reading.{Outcome, refused_after, read, after}
 use Rattle.fields.specs.declared.DuplicateKeyBehavior.{DuplicateKeyBehavior}
 use Rattle.de.specs.declared.FieldRead.{FieldRead}
-use Rattle.fields.specs.declared.text.TextRead.{TextRead}
-use Rattle.fields.specs.declared.text.TextRead.TheVariants.{Text, Refused}
+use Rattle.fields.specs.declared.text.Text.{Text}
 use Rattle.fields.specs.Fields.{root_field}
 use Rattle.fields.specs.Texts.{text_named}
-use Rattle.fields.specs.Lists.{ListResult, listed, refused, list_of_field}
+use Rattle.fields.specs.Lists.{Listed, list_of_field}
 
 -- What a call answers, with what the words and the text hold then.
 pub record TextOutcome : Type 0 where
@@ -35,9 +34,9 @@ abbrev pub refused_answer : Reading → Refusal → FieldRead
 refused_answer reading x = record { reading = refused_after reading x; offset = 0; len = 0 }
 
 -- The result of a text read.
-abbrev pub text_answer : Reading → TextRead → FieldRead
-text_answer reading (Text offset len) = record { reading = reading; offset = offset; len = len }
-text_answer reading (Refused x) = refused_answer reading x
+abbrev pub text_answer : Reading → Result Text Refusal → FieldRead
+text_answer reading (Ok text) = record { reading = reading; offset = text.offset; len = text.len }
+text_answer reading (Err x) = refused_answer reading x
 
 -- Where the reading is accepted: the text of the field of a name, in the tree that was made.
 abbrev pub text_after : DuplicateKeyBehavior → List ℕ → Node → Outcome → TextOutcome
@@ -55,18 +54,18 @@ pub record ListOutcome : Type 0 where
   pub list : List ℕ
 
 -- The answer's length is how many elements the list has; its offset has nothing to say, and is 0.
-abbrev pub list_answer : Reading → ListResult → FieldRead
-list_answer reading (listed count words) = record { reading = reading; offset = 0; len = count }
-list_answer reading (refused x) = refused_answer reading x
+abbrev pub list_answer : Reading → Result Listed Refusal → FieldRead
+list_answer reading (Ok l) = record { reading = reading; offset = 0; len = l.count }
+list_answer reading (Err x) = refused_answer reading x
 
 -- What a list leaves in its slice, which has so many words: two for each element, and zeros behind them. A refusal
 -- leaves zeros alone.
-abbrev pub list_words : ℕ → ListResult → List ℕ
-list_words size (listed count words) = words ++ replicate (size - length words) 0
-list_words size (refused x) = replicate size 0
+abbrev pub list_words : ℕ → Result Listed Refusal → List ℕ
+list_words size (Ok l) = l.words ++ replicate (size - length l.words) 0
+list_words size (Err x) = replicate size 0
 
 -- What is answered of a list, into a slice of so many words, after a reading that left this.
-abbrev pub list_outcome : Outcome → ℕ → ListResult → ListOutcome
+abbrev pub list_outcome : Outcome → ℕ → Result Listed Refusal → ListOutcome
 list_outcome o size list = record { read = leaving o (list_answer o.answer list); list = list_words size list }
 
 -- The list of the field of a name, after a reading that made this tree.

@@ -10,16 +10,15 @@ ghost use Rattle.std.specs.Prelude.{◌≡◌, ◌≤◌};
 ghost use Rattle.de.specs.Reads.{refused_answer, text_answer, text_read, left_in, list_read};
 ghost use Rattle.de.specs.ListReads.{element_count, list_read_answer, left_by};
 ghost use Rattle.de.specs.FieldsReads.{fields_read};
+ghost use Rattle.refusals.specs.Codes.{code};
 ghost use Rattle.reading.specs.Reading.{refuses};
 
-use clearing::clear_words;
+use clearing::clear;
 use config::Config;
-use fields::list::ListRead;
-use fields::text::TextRead;
+use fields::text::Text;
 use fields::{DuplicateKeyBehavior, list, text};
 use lookups::{answers, names};
-use parse::Parsed;
-use reading::Reading;
+use reading::{Reading, Refused};
 use refusals::Refusal;
 
 // What a field read answers: the reading's numbers, with the field's own number where it has one, and the text's
@@ -51,53 +50,50 @@ fn refused(reading: Reading, refusal: Refusal) -> FieldRead
 }
 
 // The result of a text read after an accepted reading.
-fn text_answer(reading: Reading, read: TextRead) -> FieldRead
+fn text_answer(reading: Reading, read: Result<Text, Refusal>) -> FieldRead
     ensures { result ≡ text_answer reading read }
 {
     match read {
-        TextRead::Text(offset, len) => FieldRead {
+        Ok(text) => FieldRead {
             reading,
-            offset,
-            len,
+            offset: text.offset,
+            len: text.len,
         },
-        TextRead::Refused(refusal) => refused(reading, refusal),
+        Err(refusal) => refused(reading, refusal),
     }
 }
 
 // The result of a list read after an accepted reading. Each element is one of its records, so their number fits.
-fn list_answer(reading: Reading, read: ListRead) -> FieldRead
+fn list_answer(reading: Reading, read: Result<usize, Refusal>) -> FieldRead
     requires { element_count read ≤ reading.records }
     ensures { result ≡ list_read_answer reading read }
 {
     match read {
-        ListRead::Elements(count) => FieldRead {
+        Ok(count) => FieldRead {
             reading,
             offset: 0,
             len: count as u32,
         },
-        ListRead::Refused(refusal) => refused(reading, refusal),
+        Err(refusal) => refused(reading, refusal),
     }
 }
 
-// What a reading's refusal leaves in a list, by its number: 1 to 3 what it held, the later ones zeros.
-fn clear_after(number: u32, list: &mut [u32])
-    ensures { list.new ≡ left_in number list.old }
+// What a reading's refusal leaves in a list: 1 to 3 what it held, the later ones zeros.
+fn clear_after(refusal: Refusal, list: &mut [u32])
+    ensures { list.new ≡ left_in (code refusal) list.old }
 {
-    if number <= 3 {
-        return;
+    match refusal {
+        Refusal::TooDeep | Refusal::TooLong | Refusal::NoRecord => {}
+        _ => clear(list),
     }
-    clear_words(list);
 }
 
 // What a list read leaves in the list: the elements, or zeros where it is refused.
-fn clear_refused(read: ListRead, list: &mut [u32])
+fn clear_refused(read: Result<usize, Refusal>, list: &mut [u32])
     ensures { list.new ≡ left_by read list.old }
 {
-    match read {
-        ListRead::Elements(_) => {}
-        ListRead::Refused(_) => {
-            clear_words(list);
-        }
+    if read.is_err() {
+        clear(list);
     }
 }
 
@@ -115,12 +111,13 @@ pub fn deserialize_str(
         ≡ text_read config duplicates input.now name.now words.old
         text.old }
 {
-    let reading = parse::parse(input, config, words, text).answer();
-    if reading.number != 0 {
-        return unread(reading);
+    match parse::parse(input, config, words, text) {
+        Ok(used) => {
+            let read = text::field_text(words, text, name, duplicates);
+            text_answer(used.into(), read)
+        }
+        Err(refused) => unread(refused.into()),
     }
-    let read = text::field_text(words, text, name, duplicates);
-    text_answer(reading, read)
 }
 
 // Reads the input into the lent words and text, and the field of a name in its root as a list, whose elements'
@@ -142,21 +139,24 @@ pub fn deserialize_seq(
         ≡ list_read config duplicates input.now name.now words.old text.old
         list.old }
 {
-    let reading = parse::parse(input, config, words, text).answer();
-    if reading.number != 0 {
-        clear_after(reading.number, list);
-        return unread(reading);
+    match parse::parse(input, config, words, text) {
+        Ok(used) => {
+            let read = list::field_list(words, text, name, duplicates, list);
+            clear_refused(read, list);
+            list_answer(used.into(), read)
+        }
+        Err(refused) => {
+            clear_after(refused.refusal, list);
+            unread(refused.into())
+        }
     }
-    let read = list::field_list(words, text, name, duplicates, list);
-    clear_refused(read, list);
-    list_answer(reading, read)
 }
 
 // The answer where the list of names or the answer words are refused, before anything is read.
 fn unasked(refusal: Refusal) -> Reading
     ensures { result ≡ refuses refusal 0 }
 {
-    Parsed::Refused(refusal, 0).answer()
+    Refused { refusal, place: 0 }.into()
 }
 
 // Reads the input into the lent words and text, once, and the field of each name in its root as a text, whose number,
@@ -191,10 +191,11 @@ pub fn deserialize_fields(
     if answers.len() / answers::WIDTH < ends.len() {
         return unasked(Refusal::ShortAnswers);
     }
-    let reading = parse::parse(input, config, words, text).answer();
-    if reading.number != 0 {
-        return reading;
+    match parse::parse(input, config, words, text) {
+        Ok(used) => {
+            answers::answer_names(words, text, names, ends, duplicates, answers);
+            used.into()
+        }
+        Err(refused) => refused.into(),
     }
-    answers::answer_names(words, text, names, ends, duplicates, answers);
-    reading
 }

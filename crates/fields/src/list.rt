@@ -9,7 +9,7 @@ ghost use Rattle.fields.specs.OnRecords.{one_at, list_at, field_at, field_list_a
 use crate::DuplicateKeyBehavior;
 use crate::stored::Stored;
 use crate::text::Text;
-use clearing::clear_words;
+use clearing::clear;
 use refusals::Refusal;
 use row::{KeyKind, Kind, Lent};
 
@@ -161,7 +161,7 @@ pub fn field_list(
         (field_list_at duplicates words.now text.now (length list.old)
         (field_at words.now text.now name.now)) result }
 {
-    clear_words(list);
+    clear(list);
     let tree = Stored {
         lent: Lent { words, text },
     };

@@ -10,16 +10,16 @@ read_list-requires c =
     record {
       inside = field_inside c.args.words.now c.args.text.now c.args.name.now _ c.requires.readable.formed.links
           c.requires.inside c.in_ok-n.ensures;
-      clear = zero-list c.args.list.now c.clear_words.ensures;
+      clear = zero-list c.args.list.now c.clear.ensures;
     }
 
 pub returns-in_err-n : goal.returns-in_err-n
 returns-in_err-n c =
     let p = err_from_is_err_and c.from_residual.result c.from_residual.ensures.1 in
     rw (p.1, p.2)
-    (field_none c.args.duplicates c.args.words.now c.args.text.now c.args.list.now c.clear_words.ensures (sym c.in_err-n.ensures))
+    (field_none c.args.duplicates c.args.words.now c.args.text.now c.args.list.now c.clear.ensures (sym c.in_err-n.ensures))
 
 pub returns : goal.returns
 returns c =
-    field_found c.args.duplicates c.args.words.now c.args.text.now c.args.list.now c.clear_words.ensures
+    field_found c.args.duplicates c.args.words.now c.args.text.now c.args.list.now c.clear.ensures
     (sym c.in_ok-n.ensures) c.read_list.ensures
