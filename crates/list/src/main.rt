@@ -13,6 +13,7 @@ ghost use Rattle.list.specs.Lending.{read_bytes, LentSlices, counted, WroteAll};
 
 use config::Config;
 use output::Written;
+use reading::Reading;
 use std::io;
 use std::io::{Read, Write};
 
@@ -51,7 +52,7 @@ fn respond_to(
         (listing (reading config query.now words.old text.old))
         out.old out.new result }
 {
-    let answer = parse::parse(query, config, words, text).answer();
+    let answer = Reading::from(parse::parse(query, config, words, text));
     count(listing::list(answer, words, text, out))
 }
 

@@ -1,5 +1,6 @@
 -- The sheet after a reading: from what the walk writes into the page to the sheet of the tree that was read.
 use Prim.Native.Nat.{ℕ, ◌*◌, ◌≤◌, ◌<◌}
+use Rattle.std.specs.Prelude.{Result}
 use mathlib.Core.Path.{◌≡◌, refl, sym, ap, ◌∙◌, subst}
 use mathlib.Core.List.{List, ◌++◌, flat_map}
 use native.Mathlib.Omega.{arith}
@@ -15,8 +16,10 @@ use Rattle.reading.specs.Trees.{plain}
 use Rattle.reading.specs.Running.{accepted}
 use Rattle.reading.specs.Reading.{Outcome, refused_after, lent_by, outcome, read, after, outcome_of}
 use Rattle.reading.proofs.Outcomes.{Sound, outcome-tree}
-use Rattle.parse.specs.declared.Parsed.{Parsed}
-use Rattle.parse.specs.Outcomes.{answer_of, outcome_of as parsed_outcome}
+use Rattle.reading.specs.declared.Used.{Used as UsedThere}
+use Rattle.reading.specs.declared.Refused.{Refused}
+use Rattle.reading.specs.Results.{answer_of}
+use Rattle.parse.specs.Outcomes.{outcome_of as parsed_outcome}
 use Rattle.parse.proofs.Went.{after_it, outcome-is, by_way, by_refusal}
 use Rattle.output.specs.Output.{filled}
 use Rattle.listed.specs.Walking.{listed_within}
@@ -46,7 +49,7 @@ module _ (words text page : List ℕ) {v : Node} {u : Used} (s : Sound (lent_by 
       ∙ sym (rw (le-ltb (length page) (o.answer.records * line_bytes) h))
 
 -- The ends of the call, by the number that the reading answers and by the page.
-module _ (config : Config) (input words text W X : List ℕ) (p : Parsed) {reading : Reading} (told : reading ≡ answer_of p)
+module _ (config : Config) (input words text W X : List ℕ) (p : Result UsedThere Refused) {reading : Reading} (told : reading ≡ answer_of p)
     (ensured : parsed_outcome p W X ≡ outcome_of (read config input words text)) (page : List ℕ) where
   abbrev it : Outcome
   it = after_it config input words text W X p told ensured

@@ -26,13 +26,14 @@ pub fn print_sheet(
     }
         ≡ printing config input.now words.old text.old page.old }
 {
-    let reading = parse::parse(input, config, words, text).answer();
-    if reading.number != 0 {
-        return reading;
+    match parse::parse(input, config, words, text) {
+        Ok(used) if page.len() < used.records as usize * sheet::LINE_BYTES => {
+            Reading::from(used).refused_by(Refusal::ShortPage)
+        }
+        Ok(used) => {
+            listing::write_sheet(words, text, page);
+            used.into()
+        }
+        Err(refused) => refused.into(),
     }
-    if page.len() < reading.records as usize * sheet::LINE_BYTES {
-        return reading.refused_by(Refusal::ShortPage);
-    }
-    listing::write_sheet(words, text, page);
-    reading
 }

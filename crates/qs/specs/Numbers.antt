@@ -1,10 +1,11 @@
 -- READING, 'Decoding': the numbers by which the C functions answer.
-use Rattle.std.specs.Prelude.{ℕ, ◌≡◌, Bool, true, false, cond, List, ℤ, pos, negsuc}
+use Rattle.std.specs.Prelude.{ℕ, ◌≡◌, Bool, true, false, List, Option, Some, None, ℤ, pos, negsuc}
 use Rattle.utf8.specs.Grammar.{Utf8}
 
--- The answer of decoding, by the values of decode's answer: the length, or -1, which no length is.
-abbrev pub length_or_no : Bool × ℕ → ℤ
-length_or_no a = cond a.0 (pos a.1) (negsuc 0)
+-- The answer of decoding: the length, or -1, which no length is.
+abbrev pub length_or_no : Option ℕ → ℤ
+length_or_no (Some length) = pos length
+length_or_no None = negsuc 0
 
 -- The answer of the test for UTF-8.
 abbrev pub one_or_zero : Bool → ℤ

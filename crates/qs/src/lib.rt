@@ -19,7 +19,6 @@ ghost use Rattle.qs.specs.Arguments.{behavior};
 
 use config::Config;
 use de::FieldRead;
-use decode::Decoded;
 use fields::DuplicateKeyBehavior;
 use reading::Reading;
 use write::Written;
@@ -32,8 +31,8 @@ pub extern "C" fn qs_decode(raw: &[u8], out: &mut [u8]) -> i64
     ensures output { out.new ≡ written raw.now out.old }
 {
     match decode::decode(raw, out) {
-        Decoded::Yes(n) => n as i64,
-        Decoded::No => -1,
+        Some(n) => n as i64,
+        None => -1,
     }
 }
 
@@ -43,7 +42,7 @@ pub extern "C" fn qs_utf8(bytes: &[u8]) -> i32
     ensures test { result ≡ one_or_zero (utf8 bytes.now) }
     ensures grammar { OneForUtf8 result bytes.now }
 {
-    if utf8::is_utf8(bytes) { 1 } else { 0 }
+    utf8::is_utf8(bytes).into()
 }
 
 // What is made of several values where a text is asked for: 0 takes the last, anything else refuses them.
@@ -71,7 +70,7 @@ pub extern "C" fn qs_parse(
     ensures { record { answer = result; words = words.new; text = text.new }
         ≡ reading (of_numbers depth form zeros) input.now words.old text.old }
 {
-    parse::parse(input, Config::of_numbers(depth, form, zeros), words, text).answer()
+    parse::parse(input, Config::of_numbers(depth, form, zeros), words, text).into()
 }
 
 // Reads `input` as `qs_parse` does, and then the root's field of that name as a text: its offset and length in

@@ -8,6 +8,7 @@
 mod compare; // what a reading answers and leaves, against what is stored
 mod stored; // the stored cases
 
+use reading::Reading;
 use std::io;
 use std::io::{Read, Write};
 use stored::Case;
@@ -20,7 +21,7 @@ const LEAD: usize = 4;
 fn agrees(case: Case, query: &[u8], left: &[u8], words: &mut [u32], text: &mut [u8]) -> bool {
     compare::fill(words, text);
     let config = stored::config_of(case);
-    let answer = parse::parse(query, config, words, text).answer();
+    let answer = Reading::from(parse::parse(query, config, words, text));
     compare::as_stored(case, answer, left, words, text)
 }
 
@@ -34,7 +35,7 @@ fn agrees_behind(
 ) -> bool {
     compare::fill(words, text);
     let config = stored::config_of(case);
-    let answer = parse::parse_at(input, LEAD, config, words, text).answer();
+    let answer = Reading::from(parse::parse_at(input, LEAD, config, words, text));
     compare::as_stored(case, answer, left, words, text)
 }
 

@@ -62,7 +62,7 @@ pub fn write(
     }
         ≡ writing config input.now words.old text.old out.old }
 {
-    let reading = parse::parse(input, config, words, text).answer();
+    let reading = Reading::from(parse::parse(input, config, words, text));
     if reading.number != 0 {
         return answered(reading, 0);
     }
