@@ -1,4 +1,5 @@
 -- What the program writes fits its output, and so is written whole.
+use Rattle.std.specs.Prelude.{Result}
 use Rattle.std.proofs.Common.{Option, Some}
 use mathlib.Core.Path.{◌≡◌, sym, ap, subst, ◌∙◌}
 use mathlib.Core.Bool.{Bool}
@@ -15,8 +16,10 @@ use Rattle.reading.specs.declared.Reading.{Reading}
 use Rattle.reading.specs.Reading.{reading}
 use Rattle.reading.proofs.Outcomes.{answers, of_outcome}
 use Rattle.reading.proofs.Placed.{placed}
-use Rattle.parse.specs.declared.Parsed.{Parsed}
-use Rattle.parse.specs.Outcomes.{answer_of, outcome_of}
+use Rattle.reading.specs.declared.Used.{Used}
+use Rattle.reading.specs.declared.Refused.{Refused}
+use Rattle.reading.specs.Results.{answer_of}
+use Rattle.parse.specs.Outcomes.{outcome_of}
 use Rattle.output.specs.declared.Written.{Written}
 use Rattle.head.specs.declared.Head.{Head}
 use Rattle.listing.specs.Bounded.{bounded_listing, outcome_from}
@@ -65,7 +68,7 @@ module _ (config : Config) (input words text out : List ℕ) (lent : LentSlices 
   fits : ((i : ℕ) → get_or (reading config input words text).words i 0 < 2 ^ 32) → length (listing (reading config input words text)) ≤ length out
   fits h = omega (arith, room config input words text (narrow h), used.0, used.1, lent.output)
 
-  pub listing-written : (words' text' : List ℕ) (parsed : Parsed) {answer : Reading}
+  pub listing-written : (words' text' : List ℕ) (parsed : Result Used Refused) {answer : Reading}
       → outcome_of parsed words' text' ≡ reading config input words text → answer ≡ answer_of parsed → ((i : ℕ) → get_or words' i 0 < 2 ^ 32)
       → (out' : List ℕ) {told : Written} {r : ℕ} → told ≡ answer_for (bounded_listing (outcome_from answer words' text')) out
       → out' ≡ filled (bounded_listing (outcome_from answer words' text')) out → r ≡ counted told

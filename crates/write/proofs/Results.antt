@@ -1,4 +1,5 @@
 -- The ends of the call: the reading refused, the output too short, and the input written.
+use Rattle.std.specs.Prelude.{Result}
 use Prim.Native.Nat.{ℕ, ◌≤◌}
 use mathlib.Core.Path.{◌≡◌, refl, sym, ap, ◌∙◌, subst}
 use mathlib.Core.Logic.{◌≢◌}
@@ -17,8 +18,10 @@ use Rattle.reading.specs.Trees.{plain}
 use Rattle.reading.specs.Buffers.{value_in, tree_in}
 use Rattle.reading.specs.Reading.{Outcome, refused_after, read, after, outcome_of}
 use Rattle.reading.proofs.Outcomes.{outcome-tree}
-use Rattle.parse.specs.declared.Parsed.{Parsed}
-use Rattle.parse.specs.Outcomes.{answer_of, outcome_of as parsed_outcome}
+use Rattle.reading.specs.declared.Used.{Used as UsedThere}
+use Rattle.reading.specs.declared.Refused.{Refused}
+use Rattle.reading.specs.Results.{answer_of}
+use Rattle.parse.specs.Outcomes.{outcome_of as parsed_outcome}
 use Rattle.parse.proofs.Went.{after_it, outcome-is, by_way, by_refusal}
 use Rattle.output.specs.Output.{page}
 use Rattle.ser.specs.Writing.{written}
@@ -71,7 +74,7 @@ module _ (bytes out : List ℕ) {len : ℕ} {r : Bool} (measured : len ≡ lengt
 pub fits-small : (len size : ℕ) {r : Bool} → r ≡ (leb len size && leb len max_len) → r ≡ true → len ≤ max_len
 fits-small len size told t = leb-true len max_len (halves (leb len size) (leb len max_len) (sym told ∙ t)).1
 
-module _ (config : Config) (input words text W X : List ℕ) (p : Parsed) {reading : Reading} (told : reading ≡ answer_of p)
+module _ (config : Config) (input words text W X : List ℕ) (p : Result UsedThere Refused) {reading : Reading} (told : reading ≡ answer_of p)
     (ensured : parsed_outcome p W X ≡ outcome_of (read config input words text)) (out : List ℕ) where
   abbrev it : Outcome
   it = after_it config input words text W X p told ensured

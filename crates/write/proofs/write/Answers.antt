@@ -9,12 +9,12 @@ use Rattle.write.proofs.write.Goals as goal
 pub returns-then-reading-ne0 : goal.returns-then-reading-ne0
 returns-then-reading-ne0 c =
     let s = c.args in
-    refused_result s.config s.input.now s.words.now s.text.now _ _ c.parse.result c.answer-reading.ensures c.parse.ensures s.out.now c.if-reading-ne0.true c.answered.ensures
+    refused_result s.config s.input.now s.words.now s.text.now _ _ c.parse.result c.from-reading.ensures c.parse.ensures s.out.now c.if-reading-ne0.true c.answered.ensures
 
 pub returns-then-not-fits : goal.returns-then-not-fits
 returns-then-not-fits c =
     let s = c.args in
-    short_result s.config s.input.now s.words.now s.text.now _ _ c.parse.result c.answer-reading.ensures c.parse.ensures s.out.now (omega (arith, c.if-reading-ne0.false)) c.measure-len.ensures c.fits.ensures (not-true _ (ap not c.if-not-fits.true)) c.refused_by.ensures c.answered-then-not-fits.ensures
+    short_result s.config s.input.now s.words.now s.text.now _ _ c.parse.result c.from-reading.ensures c.parse.ensures s.out.now (omega (arith, c.if-reading-ne0.false)) c.measure-len.ensures c.fits.ensures (not-true _ (ap not c.if-not-fits.true)) c.refused_by.ensures c.answered-then-not-fits.ensures
 
 pub overflow_cast-len : goal.overflow_cast-len
 overflow_cast-len c =
@@ -26,4 +26,4 @@ overflow_cast-len c =
 pub returns : goal.returns
 returns c =
     let s = c.args in
-    done_result s.config s.input.now s.words.now s.text.now _ _ c.parse.result c.answer-reading.ensures c.parse.ensures s.out.now (omega (arith, c.if-reading-ne0.false)) c.measure-len.ensures c.fits.ensures (not-false _ (ap not c.if-not-fits.false)) c.write_tree.ensures c.answered-2.ensures
+    done_result s.config s.input.now s.words.now s.text.now _ _ c.parse.result c.from-reading.ensures c.parse.ensures s.out.now (omega (arith, c.if-reading-ne0.false)) c.measure-len.ensures c.fits.ensures (not-false _ (ap not c.if-not-fits.false)) c.write_tree.ensures c.answered-2.ensures
