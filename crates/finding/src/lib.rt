@@ -173,17 +173,6 @@ fn touch(words: &mut [u32], text: &[u8], among: Among, child: u32)
     slots::set_near(words, among, child);
 }
 
-// Notes the child at a position.
-fn settle(words: &mut [u32], text: &[u8], among: Among, position: Position) -> Position
-    ensures position { result ≡ position }
-    ensures kept { Kept (free_from among.aids) words.old words.new }
-{
-    if let Ok(child) = position {
-        touch(words, text, among, child);
-    }
-    position
-}
-
 // The child touched last, if it has the key: so most keys that come again are found, without a tag.
 pub fn find_again(
     words: &[u32],
@@ -244,23 +233,12 @@ pub fn find_far(words: &mut [u32], text: &[u8], among: Among, tag: u64, name: &[
     ensures kept { Kept (free_from among.aids) words.old words.new }
 {
     fingers::look_near(words, among.aids);
-    match try_first(words, text, among, tag, name) {
-        Some(position) => settle(words, text, among, position),
-        None => {
-            let position = find_by_fingers(words, text, among, tag, name);
-            settle(words, text, among, position)
-        }
-    }
-}
-
-// Notes the child at a position that was come to by the slot, or that there is none.
-fn settle_near(words: &mut [u32], among: Among, position: Position) -> Position
-    ensures position { result ≡ position }
-    ensures kept { Kept (free_from among.aids) words.old words.new }
-{
-    match position {
-        Ok(child) => slots::set_near(words, among, child),
-        Err(_) => fingers::look_near(words, among.aids),
+    let position = match try_first(words, text, among, tag, name) {
+        Some(position) => position,
+        None => find_by_fingers(words, text, among, tag, name),
+    };
+    if let Ok(child) = position {
+        touch(words, text, among, child);
     }
     position
 }
@@ -276,10 +254,14 @@ pub fn find(words: &mut [u32], text: &[u8], among: Among, tag: u64, name: &[u8])
         let walk = walk_first(words, text, among, tag, name);
         return walk_all(words, text, walk, tag, name);
     }
-    match try_slot(words, text, among, tag, name) {
-        Some(position) => settle_near(words, among, position),
-        None => find_far(words, text, among, tag, name),
+    let Some(position) = try_slot(words, text, among, tag, name) else {
+        return find_far(words, text, among, tag, name);
+    };
+    match position {
+        Ok(child) => slots::set_near(words, among, child),
+        Err(_) => fingers::look_near(words, among.aids),
     }
+    position
 }
 
 // The last child of a record, or 0.

@@ -1,5 +1,5 @@
 // A value added at a record: the work of the source's `append_value` on the words.
-ghost use Rattle.std.specs.Prelude.{◌≡◌, ◌≢◌, [], ◌+◌, ◌<◌, ◌^◌};
+ghost use Rattle.std.specs.Prelude.{◌≡◌, ◌≢◌, ◌↔◌, IsTrue, [], ◌+◌, ◌<◌, ◌^◌};
 ghost use Rattle.key.specs.Keys.{str};
 ghost use Rattle.row.specs.Row.{kind_word, map_kind, sequence_kind};
 ghost use Rattle.row.specs.Words.{record_count, word};
@@ -16,17 +16,18 @@ use key::KeyKind;
 use records::siblings::{Gap, Position};
 use records::store::{KeyWords, Record, ValueWords};
 use records::{siblings, store};
+use row::Kind;
 
 // The key of a sequence's element: none.
 const NO_KEY: KeyWords = KeyWords {
-    kind: row::NO_KEY,
+    kind: row::KeyKind::None as u32,
     offset: 0,
     len: 0,
 };
 
 // The empty key, which has no text.
 const EMPTY_KEY: KeyWords = KeyWords {
-    kind: row::STRING_KEY,
+    kind: row::KeyKind::String as u32,
     offset: 0,
     len: 0,
 };
@@ -93,7 +94,7 @@ fn make_sequence(words: &mut [u32], used: u32, n: u32, value: ValueWords)
 {
     let old = store::get_value(words, n);
     let sequence = ValueWords {
-        kind: row::SEQUENCE,
+        kind: Kind::Sequence as u32,
         offset: 0,
         len: 0,
     };
@@ -134,14 +135,22 @@ fn append_here(words: &mut [u32], among: Among, value: ValueWords) -> Option<u32
     ensures { Leaves (appended_here words.old among.used among.parent value) among.aids
         words.new result }
 {
-    match row::get_word(words, among.parent, row::KIND) {
-        row::UNINITIALIZED => {
+    match Kind::try_from(row::get_word(words, among.parent, row::KIND)) {
+        Ok(Kind::Uninitialized) => {
             store::set_value(words, among.parent, value);
             Some(among.used)
         }
-        row::SEQUENCE => push(words, among, value),
+        Ok(Kind::Sequence) => push(words, among, value),
         _ => pair(words, among, value),
     }
+}
+
+// Whether record n is a Map.
+fn is_map(words: &[u32], n: u32) -> bool
+    requires { n < record_count words.now }
+    ensures { IsTrue result ↔ (word words.now n kind_word ≡ map_kind) }
+{
+    row::get_word(words, n, row::KIND) == Kind::Map as u32
 }
 
 // Adds a value at the parent, by the rule of Adding: a Map adds it under its empty key, by the same rule at the child
@@ -151,7 +160,7 @@ fn append(words: &mut [u32], text: &[u8], among: Among, value: ValueWords) -> Op
         × (among.used + 2 < 2 ^ 32)) }
     ensures { Appends words.old text.now among value words.new result }
 {
-    if row::get_word(words, among.parent, row::KIND) != row::MAP {
+    if !is_map(words, among.parent) {
         return append_here(words, among, value);
     }
     match find_empty(words, text, among) {
@@ -174,7 +183,7 @@ pub fn add(words: &mut [u32], text: &[u8], among: Among, value: ValueWords) -> O
         × (among.used + 2 < 2 ^ 32) }
     ensures { Appends words.old text.now among value words.new result }
 {
-    if row::get_word(words, among.parent, row::KIND) != row::MAP {
+    if !is_map(words, among.parent) {
         return append_here(words, among, value);
     }
     let at = Among {

@@ -1,5 +1,5 @@
 // A record put in among the children of another, of which the aids know then, unless the records reach them.
-ghost use Rattle.std.specs.Prelude.{◌≢◌, List, ℕ, ◌+◌, ◌*◌, ◌≤◌, ◌<◌, ◌^◌, length};
+ghost use Rattle.std.specs.Prelude.{◌≢◌, IfSome, List, ℕ, ◌+◌, ◌*◌, ◌≤◌, ◌<◌, ◌^◌, length};
 ghost use Rattle.row.specs.Row.{record_width};
 ghost use Rattle.row.specs.Words.{record_count};
 ghost use Rattle.aids.specs.Kept.{free_from, no_aids, Kept};
@@ -21,27 +21,28 @@ const FEWEST: usize = 64;
 // The most records that stand below the aids, so that a slot has room for a record's number.
 const MOST: usize = 268435455;
 
-// How many of the records lent stand below the aids: all but a third.
-fn below_aids(records: usize) -> u32
-    ensures { (0 < result) × (result ≢ no_aids → free_from result ≤ records * record_width) }
+// How many of the records lent stand below the aids: all but a third, if there are enough.
+fn below_aids(records: usize) -> Option<u32>
+    ensures { IfSome result (λ below. (0 < below) × (free_from below ≤ records * record_width)) }
 {
     if records < FEWEST {
-        return aids::NO_AIDS;
+        return None;
     }
     let below = records - records / 3;
-    below.min(MOST) as u32
+    Some(below.min(MOST) as u32)
 }
 
 // Makes the aids ready for words in which only record 0 is used.
 pub fn start(words: &mut [u32]) -> u32
     ensures { Kept (free_from result) words.old words.new × Aided words.new 1 result }
 {
-    let below = below_aids(words.len() / row::WIDTH);
-    if below != aids::NO_AIDS {
-        fingers::start(words, below);
-        return below;
+    match below_aids(words.len() / row::WIDTH) {
+        Some(below) => {
+            fingers::start(words, below);
+            below
+        }
+        None => aids::NO_AIDS,
     }
-    aids::NO_AIDS
 }
 
 // Has the aids know the record that follows those used, a child of a Map, after its key was looked for.

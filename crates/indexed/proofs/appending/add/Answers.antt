@@ -1,12 +1,12 @@
 -- At a Map by `append`, else at the record.
-use mathlib.Core.Path.{◌∙◌}
+use Rattle.std.proofs.lemmas.Bool.{false≢true}
 use Rattle.indexed.proofs.Added.{append_other}
 use Rattle.indexed.proofs.appending.add.Goals as goal
 
 pub append-requires : goal.append-requires
 append-requires c = (c.requires.ready, (c.requires.inside.0, c.requires.inside.1))
 
-pub returns-then-get_word-ne-MAP : goal.returns-then-get_word-ne-MAP
-returns-then-get_word-ne-MAP c =
+pub returns-then-not-is_map : goal.returns-then-not-is_map
+returns-then-not-is_map c =
     append_other c.requires.ready c.requires.inside.0 c.args.value
-    (λ e. c.if-get_word-ne-MAP.true (c.get_word.ensures ∙ e)) c.append_here.ensures
+    (λ e. false≢true (c.if-not-is_map.ensures.1 e)) c.append_here.ensures
