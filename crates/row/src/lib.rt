@@ -62,6 +62,7 @@ pub fn has_room(words: &[u32], count: u32) -> bool
 }
 
 // Word w of record n, which is one of the words' records.
+#[tactic(auto, unfolding(crate::specs::Words::word))]
 pub fn get_word(words: &[u32], n: u32, w: usize) -> u32
     requires { (n < record_count words.now) × (w < record_width) }
     ensures { result ≡ word words.now n w }
@@ -70,18 +71,16 @@ pub fn get_word(words: &[u32], n: u32, w: usize) -> u32
 }
 
 // Word w of record n, or 0 past the words' end: for words that may be any.
+#[tactic(auto, unfolding(crate::specs::Words::word))]
 pub fn word_or_zero(words: &[u32], n: u32, w: usize) -> u32
     requires { w < record_width }
     ensures { result ≡ word words.now n w }
 {
-    let i = n as usize * WIDTH + w;
-    if i < words.len() {
-        return words[i];
-    }
-    0
+    words.get(n as usize * WIDTH + w).copied().unwrap_or(0)
 }
 
 // Makes x word w of record n. Nothing else changes.
+#[tactic(auto, unfolding(crate::specs::Words::with_word))]
 pub fn set_word(words: &mut [u32], n: u32, w: usize, x: u32)
     requires { (n < record_count words.old) × (w < record_width) }
     ensures { words.new ≡ with_word words.old n w x }
@@ -93,13 +92,6 @@ pub fn set_word(words: &mut [u32], n: u32, w: usize, x: u32)
 pub fn text_part<'a>(text: &'a [u8], offset: u32, len: u32) -> &'a [u8]
     ensures { result.now ≡ text_part text.now offset len }
 {
-    let start = offset as usize;
-    let n = len as usize;
-    if text.len() <= start {
-        return &text[0..0];
-    }
-    if text.len() - start <= n {
-        return &text[start..];
-    }
-    &text[start..start + n]
+    let rest = text.get(offset as usize..).unwrap_or(&[]);
+    &rest[..rest.len().min(len as usize)]
 }
