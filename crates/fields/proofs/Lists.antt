@@ -61,6 +61,21 @@ pub record Turning (d : DuplicateKeyBehavior) (ws text : List ℕ) (whole : Resu
   pub few : i + length rest < record_count ws
   pub so_far : prefixed i front (in_turn_at d ws text i rest) ≡ whole
 
+pub turning_start : (d : DuplicateKeyBehavior) (ws text : List ℕ) (n : ℕ) (l : List ℕ) {rest : List ℕ} → Linked ws (record_count ws) → n < record_count ws
+    → l ≡ replicate (length l) 0 → 2 * length (children ws n) ≤ length l → rest ≡ children ws n
+    → Turning d ws text (in_turn_at d ws text 0 (children ws n)) (length l) 0 rest l
+turning_start d ws text n l k h z r e =
+    rw e
+    (record {
+      front = [];
+      front_long = refl;
+      written = let f : length l - 2 * 0 ≡ length l = omega arith in rw f z;
+      within = (children-end k n h).within;
+      room = omega arith;
+      few = omega (arith, k.ends n h);
+      so_far = prefixed_none (in_turn_at d ws text 0 (children ws n));
+    })
+
 module _ {d : DuplicateKeyBehavior} {ws text : List ℕ} {whole : Result Listed Refusal} {size i : ℕ} {rest l : List ℕ} (v : Turning d ws text whole size i rest l) where
   pub turning_long : length l ≡ size
   turning_long =

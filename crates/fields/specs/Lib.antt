@@ -2,5 +2,4 @@ pub mod Fields
 pub mod Texts
 pub mod Lists
 pub mod OnRecords
-pub mod Children
 pub mod Props

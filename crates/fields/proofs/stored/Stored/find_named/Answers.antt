@@ -6,7 +6,7 @@ use Rattle.std.proofs.lemmas.Iterator.Adapters.{option_map_id}
 use Rattle.std.proofs.lemmas.Iterator.Consumers.{YieldsList-from_first}
 use Rattle.std.proofs.lemmas.Iterator.Search.{find_from_yields_List}
 use Rattle.refusals.specs.declared.Refusal.TheVariants.{NoSuchField}
-use Rattle.fields.specs.Children.{left}
+use Rattle.records.specs.Walks.{left}
 use Rattle.fields.specs.OnRecords.{is_named_at}
 use Rattle.fields.proofs.Fields.{named-found}
 use Rattle.fields.proofs.stored.Stored.find_named.Goals as goal
@@ -17,5 +17,5 @@ returns c =
     let text = c.args.self.now.lent.text.now in
     let name = c.args.name.now in
     let f = find_from_yields_List (is_named_at ws text name) c.find.new.self _ c.find.result c.find.ensures.ran
-    (YieldsList-from_first (λ x. x) left _ c.children.ensures.all) (λ x b q k. search (rules, tests)) in
+    (YieldsList-from_first (λ x. x) left _ c.children.ensures) (λ x b q k. search (rules, tests)) in
     c.ok_or.ensures.value ∙ ap (λ r. ok_or r NoSuchField) (sym (option_map_id c.find.result) ∙ f) ∙ named-found ws text name _

@@ -1,6 +1,16 @@
 use Rattle.std.proofs.lemmas.Result.{err_from_is_err_and}
-use Rattle.fields.proofs.Lists.{child_inside, turning_more, turning_stopped, turning_done}
+use mathlib.Core.Path.{ap, ◌∙◌}
+use Rattle.records.specs.Walks.{left}
+use Rattle.fields.proofs.Lists.{turning_start, child_inside, turning_more, turning_stopped, turning_done}
 use Rattle.fields.proofs.stored.Stored.read_in_turn.Goals as goal
+
+pub loop-child-init : goal.loop-child-init
+loop-child-init c =
+    record {
+      can = tt;
+      finite = tt;
+      turning = turning_start _ _ _ _ _ c.args.self.now.linked c.requires.inside c.requires.clear c.requires.room (ap left c.into_iter-child-iterator.ensures.into_iter_gives ∙ c.children-child-items.ensures);
+    }
 
 pub read_element-requires : goal.read_element-requires
 read_element-requires c = child_inside c.loop-child.invariant.turning (rw c.in-Some.is at c.next.ensures.steps)

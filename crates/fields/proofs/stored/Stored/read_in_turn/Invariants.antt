@@ -1,7 +1,7 @@
 -- The elements so far are written with zeros behind, and those of the children left are due.
 use lib.ListN.{length}
 use Rattle.records.specs.Siblings.{children}
-use Rattle.fields.specs.Children.{left}
+use Rattle.records.specs.Walks.{left}
 use Rattle.fields.specs.OnRecords.{in_turn_at}
 use Rattle.fields.proofs.Lists.{Turning}
 use Rattle.fields.proofs.stored.Stored.read_in_turn.Given as goal
