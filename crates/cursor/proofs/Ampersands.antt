@@ -1,14 +1,19 @@
 -- Where a value ends: the loops that look for `&`, and from the first `&` to the scan by takings.
-use mathlib.Core.Path.{◌≡◌, refl, sym, ◌∙◌, subst}
-use mathlib.Core.Bool.{Bool, true, false, cond, ◌||◌}
+use mathlib.Core.Path.{◌≡◌, refl, sym, ap, ◌∙◌, subst}
+use mathlib.Core.Bool.{Bool, true, false, cond, not}
 use mathlib.Core.Logic.{◌⊎◌, inl, inr, ⊎_elim}
 use mathlib.Core.Option.{Option, none, some}
 use mathlib.Core.List.{List, [], ◌∷◌}
-use Prim.Native.Nat.{ℕ, zero, suc, ◌+◌, ◌≤◌, ◌<◌}
+use Prim.Native.Nat.{ℕ, zero, suc, ◌+◌, ◌-◌, ◌*◌, ◌≤◌, ◌<◌}
 use native.Mathlib.Omega.{arith}
-use borrow.Author.Tests.{eqb-true, eqb-false, ne_eqb}
+use borrow.Author.Tests.{eqb-true, eq-eqb, ne_eqb}
 use lib.Dec.{eqb}
-use lib.ListN.{length, drop, get_or}
+use lib.ListN.{length, take, drop, get_or, length-drop}
+use lib.Seq.{take-add, get_or-drop, length-take-le}
+use Rattle.std.specs.List.{AllWithin, HoldsAt, prefix_len}
+use Rattle.std.specs.Simd.{first_chunks}
+use Rattle.std.proofs.lemmas.List.{get_or-take}
+use Rattle.std.proofs.lemmas.List.Folds.{list_any_at, list_any-append}
 use Rattle.laws.proofs.Cases.{split, below, true-false}
 use Rattle.laws.proofs.Lists.{drop_1}
 use Rattle.config.specs.declared.Config.{Config}
@@ -16,7 +21,7 @@ use Rattle.reading.specs.Taking.{Symbol, ampersand, equals, opening, closing, ot
 use Rattle.cursor.specs.declared.scanning.Until.TheVariants.{Value as ValueScan}
 use Rattle.cursor.specs.Takings.{escape_ahead, escape_in, Takes}
 use Rattle.cursor.specs.Scans.{stops, Passed, here, more, Scan}
-use Rattle.cursor.specs.Ampersands.{Ampersand, NoAmpersand, HasAmpersand, Reaches, FirstAmpersand}
+use Rattle.cursor.specs.Ampersands.{Ampersand, NoAmpersand, holds_ampersand, Reaches, FirstAmpersand}
 use Rattle.cursor.proofs.Takings.{escape-long, takes_byte, takes_opening, takes_closing}
 
 -- The byte 38 is `&`, and no other.
@@ -32,67 +37,80 @@ byte_not b h e = go (eqb b 61) (eqb b 91) (eqb b 93) (rw (ne_eqb b 38 h) at e)
     go false false true e = let w : ◌≡◌ {A = ℕ} 0 1 = cc in omega arith
     go false false false e = let w : ◌≡◌ {A = ℕ} 0 1 = cc in omega arith
 
--- Indexes between which no `&` stands: none, one more, and two such parts that follow each other.
-none_yet : (s : List ℕ) (a : ℕ) → NoAmpersand s a a
-none_yet s a = record { none = λ i h k q. omega arith }
-
-none-at : (s : List ℕ) (a : ℕ) → (Ampersand s a → ⊥) → NoAmpersand s a (a + 1)
-none-at s a n = record { none = λ i h k q. let e : i ≡ a = omega arith in n (rw e at q) }
-
+-- Two parts that follow each other.
 none_join : {s : List ℕ} {a b c : ℕ} → NoAmpersand s a b → NoAmpersand s b c → NoAmpersand s a c
 none_join {b = b} p q = record { none = λ i h k. below i b (λ l. p.none i h l) (λ l. q.none i l k) }
 
--- The loop of `block_holds`, which has looked at i bytes.
-pub record Looking (s : List ℕ) (start i : ℕ) (holds : Bool) : Type 0 where
-  pub within : i ≤ 16
-  pub no : holds ≡ false → NoAmpersand s start (start + i)
-  pub yes : holds ≡ true → HasAmpersand s start (start + i)
+-- Bytes of a part of the input that are none.
+pub none_within : (s : List ℕ) (start m n : ℕ) → n ≤ m → AllWithin (λ b. b ≡ 38 → ⊥) (take m (drop start s)) 0 n
+    → NoAmpersand s start (start + n)
+none_within s start m n h all =
+    record {
+      none = λ i l k.
+          let j : start + (i - start) ≡ i = omega arith in
+          let e : get_or (take m (drop start s)) (i - start) 0 ≡ get_or s i 0 =
+          get_or-take m (drop start s) (i - start) 0 (omega arith) ∙ get_or-drop start s (i - start) 0 ∙ ap (λ n. get_or s n 0) j in
+          byte_not (get_or s i 0) (λ q. all (i - start) 0 (omega arith) (omega arith) (e ∙ q));
+    }
 
-pub looking_start : (s : List ℕ) (start : ℕ) → Looking s start 0 false
-looking_start s start =
-    let e : start ≡ start + 0 = omega arith in
-    record { within = omega arith; no = λ q. subst (NoAmpersand s start) e (none_yet s start); yes = λ q. true-false (sym q) }
+none_held : (xs : List ℕ) (n : ℕ) → n ≤ length xs → holds_ampersand xs ≡ false → AllWithin (λ b. b ≡ 38 → ⊥) xs 0 n
+none_held xs n h e k d l m q =
+    true-false (sym (list_any_at (λ b. eqb b 38) xs k d (omega arith) (eq-eqb (get_or xs k d) 38 q)) ∙ e)
 
-pub looking_more : {s : List ℕ} {start i : ℕ} {holds : Bool} → Looking s start i holds → i < 16
-    → Looking s start (i + 1) (holds || eqb (get_or s (start + i) 0) 38)
-looking_more {s} {start} {i} {holds} v h = go holds v.no v.yes
-  where
-    go : (b : Bool) → (b ≡ false → NoAmpersand s start (start + i)) → (b ≡ true → HasAmpersand s start (start + i))
-        → Looking s start (i + 1) (b || eqb (get_or s (start + i) 0) 38)
-    go true n y =
-        let a = y refl in
-        record { within = omega arith; no = λ q. true-false q; yes = λ q. record { at = a.at; low = a.low; high = omega (arith, a.high); is = a.is } }
-    go false n y =
-        let b = get_or s (start + i) 0 in
-        let e : start + i + 1 ≡ start + (i + 1) = omega arith in
-        record {
-          within = omega arith;
-          no = λ q. subst (NoAmpersand s start) e (none_join (n refl) (none-at s (start + i) (byte_not b (eqb-false b 38 q))));
-          yes = λ q. record { at = start + i; low = omega arith; high = omega arith; is = byte-is b (eqb-true b 38 q) };
-        }
+-- Blocks of sixteen bytes that hold none one by one hold none together.
+pub blocks_clear : (k : ℕ) (l : List ℕ) (r : ℕ) → r ≤ prefix_len (λ b. not (holds_ampersand b)) (first_chunks 16 k l)
+    → holds_ampersand (take (16 * r) l) ≡ false
+blocks_clear k l zero h = refl
+blocks_clear zero l (suc r) h = absurd (omega arith)
+blocks_clear (suc k) l (suc r) h =
+    split (holds_ampersand (take 16 l))
+    (λ p. absurd (omega (arith, simp p at h)))
+    (λ p.
+    let m : suc r ≤ 1 + prefix_len (λ b. not (holds_ampersand b)) (first_chunks 16 k (drop 16 l)) = simp p at h in
+    let e : 16 * suc r ≡ 16 + 16 * r = omega arith in
+    rw (e, take-add 16 (16 * r) l, list_any-append (λ b. eqb b 38) (take 16 l) (take (16 * r) (drop 16 l)), p)
+    (blocks_clear k (drop 16 l) r (omega arith)))
 
-pub looking_done : {s : List ℕ} {start i : ℕ} {holds : Bool} → Looking s start i holds → 16 ≤ i
-    → (holds ≡ false → NoAmpersand s start (start + 16)) × (holds ≡ true → HasAmpersand s start (start + 16))
-looking_done {s} {start} {i} v h =
-    let e : i ≡ 16 = omega (arith, v.within) in
-    (λ q. subst (λ (n : ℕ). NoAmpersand s start (start + n)) e (v.no q), λ q. subst (λ (n : ℕ). HasAmpersand s start (start + n)) e (v.yes q))
+-- So blocks are passed.
+pub blocks_passed : (s : List ℕ) (start r : ℕ) → start ≤ length s → 16 * r ≤ length s - start
+    → holds_ampersand (take (16 * r) (drop start s)) ≡ false → Reaches s start (start + 16 * r)
+blocks_passed s start r h k e =
+    let l : length (take (16 * r) (drop start s)) ≡ 16 * r = length-take-le (16 * r) (drop start s) (simp length-drop k) in
+    record {
+      long = omega arith;
+      inside = omega arith;
+      passed = none_within s start (16 * r) (16 * r) (omega arith) (none_held (take (16 * r) (drop start s)) (16 * r) (omega (arith, l)) e);
+    }
 
--- The loop of `pass_blocks`, which has come to i.
-pub reaches_start : {s : List ℕ} {start : ℕ} → start ≤ length s → Reaches s start start
-reaches_start {s} {start} h = record { long = omega arith; inside = h; passed = none_yet s start }
+-- The first `&` of a part, or none.
+pub ends_found : (s : List ℕ) (start limit n : ℕ) → start ≤ limit → limit ≤ length s
+    → n < length (take (limit - start) (drop start s)) → HoldsAt (λ b. b ≡ 38) (take (limit - start) (drop start s)) n
+    → AllWithin (λ b. b ≡ 38 → ⊥) (take (limit - start) (drop start s)) 0 n → FirstAmpersand s start limit (start + n)
+ends_found s start limit n h k l at all =
+    let m : length (take (limit - start) (drop start s)) ≡ limit - start =
+    length-take-le (limit - start) (drop start s) (simp length-drop (omega arith)) in
+    let e : get_or (take (limit - start) (drop start s)) n 0 ≡ get_or s (start + n) 0 =
+    get_or-take (limit - start) (drop start s) n 0 (omega arith) ∙ get_or-drop start s n 0 in
+    record {
+      long = omega arith;
+      inside = omega arith;
+      passed = none_within s start (limit - start) n (omega arith) all;
+      stop = inr (byte-is (get_or s (start + n) 0) (sym e ∙ at 0));
+    }
 
-pub reaches_more : {s : List ℕ} {start i j : ℕ} → Reaches s start i → NoAmpersand s i j → i ≤ j → j ≤ length s → Reaches s start j
-reaches_more v p h k = record { long = omega (arith, v.long); inside = k; passed = none_join v.passed p }
-
--- The loop of `first_ampersand`.
-pub reaches_byte : {s : List ℕ} {start i : ℕ} → Reaches s start i → i < length s → (get_or s i 0 ≡ 38 → ⊥) → Reaches s start (i + 1)
-reaches_byte {s} {start} {i} v h n = reaches_more v (none-at s i (byte_not (get_or s i 0) n)) (omega arith) (omega arith)
-
-pub ends_byte : {s : List ℕ} {start limit i : ℕ} → Reaches s start i → i ≤ limit → get_or s i 0 ≡ 38 → FirstAmpersand s start limit i
-ends_byte {s} {i = i} v h e = record { long = v.long; inside = h; passed = v.passed; stop = inr (byte-is (get_or s i 0) e) }
-
-pub ends_limit : {s : List ℕ} {start limit i : ℕ} → Reaches s start i → i ≤ limit → limit ≤ i → FirstAmpersand s start limit i
-ends_limit v h k = record { long = v.long; inside = h; passed = v.passed; stop = inl (omega arith) }
+pub ends_limit : (s : List ℕ) (start limit : ℕ) → start ≤ limit → limit ≤ length s
+    → AllWithin (λ b. b ≡ 38 → ⊥) (take (limit - start) (drop start s)) 0 (length (take (limit - start) (drop start s)))
+    → FirstAmpersand s start limit limit
+ends_limit s start limit h k all =
+    let m : length (take (limit - start) (drop start s)) ≡ limit - start =
+    length-take-le (limit - start) (drop start s) (simp length-drop (omega arith)) in
+    let e : start + (limit - start) ≡ limit = omega arith in
+    record {
+      long = h;
+      inside = omega arith;
+      passed = rw e at (none_within s start (limit - start) (limit - start) (omega arith) (rw m at all));
+      stop = inl refl;
+    }
 
 -- What `value_end` makes of its parts: the first block ends the value, or it is passed, then blocks, then bytes up to the end.
 pub ends_near : {s : List ℕ} {start limit found : ℕ} → FirstAmpersand s start limit found → found < limit → limit ≤ length s

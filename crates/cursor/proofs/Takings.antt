@@ -9,6 +9,7 @@ use borrow.Author.Tests.{eqb-true}
 use lib.Dec.{eqb}
 use lib.ListN.{length, drop, get_or, length-drop}
 use lib.Seq.{drop-drop}
+use Rattle.std.specs.Prelude.{Some, None, is_some, unwrap_or}
 use Rattle.laws.proofs.Cases.{split, true-false}
 use Rattle.laws.proofs.Lists.{drop_1, drop_3}
 use Rattle.config.specs.declared.Config.{Config}
@@ -19,19 +20,9 @@ use Rattle.cursor.specs.declared.taking.Symbol.TheVariants.{Ampersand, Equals, O
 use Rattle.cursor.specs.declared.taking.Cursor.{Cursor}
 use Rattle.cursor.specs.declared.taking.Taken.{Taken}
 use Rattle.cursor.specs.Segments.{segment}
-use Rattle.cursor.specs.Takings.{yielded, number, same_symbol, escape_ahead, escape_in, Takes, Took, advanced, Next}
+use Rattle.cursor.specs.Takings.{yielded, number, same_symbol, bracket_of, escape_ahead, escape_in, Takes, Took, advanced, Next}
 
--- Whether an escaped bracket stands at a place: no where there are too few bytes; else its three bytes tell.
-pub escape_short : (config : Config) (s : List ℕ) (i : ℕ) → length s - i < 3 → escape_in config (drop i s) ≡ neither
-escape_short config s i h = go config.form (drop i s) (omega (arith, length-drop i s))
-  where
-    go : (form : Bool) (l : List ℕ) → length l < 3 → cond form (escape_ahead l) neither ≡ neither
-    go false l k = refl
-    go true [] k = refl
-    go true (b ∷ []) k = refl
-    go true (b ∷ c ∷ []) k = refl
-    go true (b ∷ c ∷ d ∷ r) k = absurd (omega arith)
-
+-- What stands at a place where there are three bytes.
 pub escape-long : (config : Config) (s : List ℕ) (i : ℕ) → 3 ≤ length s - i → config.form ≡ true
     → escape_in config (drop i s) ≡ escape (get_or s i 0) (get_or s (i + 1) 0) (get_or s (i + 2) 0)
 escape-long config s i h f = rw f (ap escape_ahead (drop_3 s i (omega arith)))
@@ -96,6 +87,26 @@ module _ (config : Config) (s : List ℕ) (i : ℕ) where
 
   pub takes_closing : escape_in config (drop i s) ≡ closes → Takes config s i closing (i + 3)
   takes_closing = takes_escape closes closing (λ b c d r h. rw h) (λ h. let z : ◌≡◌ {A = ℕ} 0 1 = cc in omega arith)
+
+  -- The bracket that the code finds there, or none.
+  pub takes_bracket : {b : Symbol} → Some b ≡ bracket_of (escape_in config (drop i s)) → Took config s i (yielded b) (i + 3)
+  takes_bracket {b} = go (escape_in config (drop i s)) refl
+    where
+      same : {x : Symbol} → Some b ≡ Some x → Took config s i (yielded x) (i + 3) → Took config s i (yielded b) (i + 3)
+      same e k = subst (λ (z : Symbol). Took config s i (yielded z) (i + 3)) (sym (ap (λ o. unwrap_or o End) e)) k
+
+      go : (e : taking.Escape) → escape_in config (drop i s) ≡ e → Some b ≡ bracket_of e → Took config s i (yielded b) (i + 3)
+      go opens p q = same q (takes_opening p)
+      go closes p q = same q (takes_closing p)
+      go neither p q = true-false (ap is_some q)
+
+  pub no_bracket : None ≡ bracket_of (escape_in config (drop i s)) → escape_in config (drop i s) ≡ neither
+  no_bracket = go (escape_in config (drop i s))
+    where
+      go : (e : taking.Escape) → None ≡ bracket_of e → e ≡ neither
+      go opens q = true-false (sym (ap is_some q))
+      go closes q = true-false (sym (ap is_some q))
+      go neither q = refl
 
 -- What a taking answers, told by what `advance` does.
 pub next-is : {config : Config} {s : List ℕ} {cursor : Cursor} {taken : Taken} {symbol : Symbol} {place : ℕ} → taken ≡ advanced symbol cursor place

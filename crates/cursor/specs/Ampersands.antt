@@ -1,5 +1,6 @@
 -- READING, 'Values': where a value ends, told of the input's bytes. Where it ends by its takings is in specs/Scans.
-use Rattle.std.specs.Prelude.{ℕ, ◌≤◌, ◌<◌, ◌≡◌, ◌⊎◌, List, length, get_or}
+use Rattle.std.specs.Prelude.{ℕ, ◌≤◌, ◌<◌, ◌≡◌, ◌==◌, ◌⊎◌, Bool, List, length, get_or}
+use Rattle.std.specs.List.{list_any}
 use Rattle.reading.specs.Taking.{ampersand, symbol_of}
 
 -- The byte at an index is `&`.
@@ -10,12 +11,9 @@ Ampersand input i = symbol_of (get_or input i 0) ≡ ampersand
 pub record NoAmpersand (input : List ℕ) (start end : ℕ) : Type 0 where
   pub none : (i : ℕ) → start ≤ i → i < end → Ampersand input i → ⊥
 
--- Some byte from an index up to another is.
-pub record HasAmpersand (input : List ℕ) (start end : ℕ) : Type 0 where
-  pub at : ℕ
-  pub low : start ≤ at
-  pub high : at < end
-  pub is : Ampersand input at
+-- Whether some byte is.
+abbrev pub holds_ampersand : List ℕ → Bool
+holds_ampersand bytes = list_any (λ b. b == 38) bytes
 
 -- An index that is reached without passing `&`.
 pub record Reaches (input : List ℕ) (start found : ℕ) : Type 0 where

@@ -1,6 +1,7 @@
 -- READING, 'Takings': one taking at a place (the source's `next`), against the list of the input's takings (reading's
 -- specs/Taking).
 use Rattle.std.specs.Prelude.{ℕ, ◌+◌, ◌≤◌, ◌<◌, ◌≡◌, Bool, cond, List, [], ◌∷◌, eqb, length, drop}
+use Rattle.std.specs.Prelude.{Option as Bracket, Some, None}
 use Rattle.std.proofs.Math.Option.{Option, none, some}
 use Rattle.config.specs.declared.Config.{Config}
 use Rattle.reading.specs.Taking as taking
@@ -8,8 +9,6 @@ use Rattle.reading.specs.Taking.{ampersand, equals, opening, closing, other, ope
 use Rattle.reading.specs.Taking.{escape, token, tokens}
 use Rattle.cursor.specs.declared.taking.Symbol.{Symbol}
 use Rattle.cursor.specs.declared.taking.Symbol.TheVariants.{Ampersand, Equals, Opening, Closing, Other, End}
-use Rattle.cursor.specs.declared.taking.Escape.{Escape}
-use Rattle.cursor.specs.declared.taking.Escape.TheVariants.{Opens, Closes, Neither}
 use Rattle.cursor.specs.declared.taking.Cursor.{Cursor}
 use Rattle.cursor.specs.declared.taking.Taken.{Taken}
 use Rattle.cursor.specs.Segments.{segment}
@@ -35,11 +34,11 @@ number End = 5
 abbrev pub same_symbol : Symbol → Symbol → Bool
 same_symbol x y = eqb (number x) (number y)
 
--- What the code's escape stands for.
-abbrev pub escape_of : Escape → taking.Escape
-escape_of Opens = opens
-escape_of Closes = closes
-escape_of Neither = neither
+-- The bracket that an escape stands for, as the code has it.
+abbrev pub bracket_of : taking.Escape → Bracket Symbol
+bracket_of opens = Some Opening
+bracket_of closes = Some Closing
+bracket_of neither = None
 
 -- The escaped bracket that bytes start with, if any: `%5B` or `%5D`, with a capital letter.
 abbrev pub escape_ahead : List ℕ → taking.Escape

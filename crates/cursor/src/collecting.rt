@@ -63,17 +63,14 @@ pub fn collect_value(input: &[u8], config: Config, place: usize) -> CollectedVal
     ensures { ValueIs config input.now place result }
 {
     let end = value_end(input, place);
-    let after = end + 1;
-    if end == place {
-        return CollectedValue {
-            leaf: LeafKind::Null,
-            end,
-            place: after,
-        };
-    }
+    let leaf = if end == place {
+        LeafKind::Null
+    } else {
+        LeafKind::String
+    };
     CollectedValue {
-        leaf: LeafKind::String,
+        leaf,
         end,
-        place: after,
+        place: end + 1,
     }
 }

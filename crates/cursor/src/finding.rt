@@ -1,21 +1,18 @@
 // Finding where a value ends: the first `&`, or the input's end. The source takes byte by byte; here a long value is
 // passed by blocks, each looked at as a whole.
-ghost use Rattle.std.specs.Prelude.{◌≡◌, true, false, ◌+◌, ◌≤◌, length};
-ghost use Rattle.cursor.specs.Ampersands.{NoAmpersand, HasAmpersand, FirstAmpersand, Reaches};
+ghost use Rattle.std.specs.Prelude.{◌≡◌, ◌≤◌, length};
+ghost use Rattle.cursor.specs.Ampersands.{holds_ampersand, FirstAmpersand, Reaches};
 
 // How many bytes a block has.
 const BLOCK: usize = 16;
 
-// Whether the block that starts at an index holds `&`. Every byte is looked at, so that the compiler can take them all
-// at once.
-fn block_holds(input: &[u8], start: usize) -> bool
-    requires { start + 16 ≤ length input.now }
-    ensures { (result ≡ false → NoAmpersand input.now start (start + 16))
-        × (result ≡ true → HasAmpersand input.now start (start + 16)) }
+// Whether a block holds `&`. Every byte is looked at, so that the compiler can take them all at once.
+fn holds_ampersand(block: &[u8; BLOCK]) -> bool
+    ensures { result ≡ holds_ampersand block.now }
 {
     let mut holds = false;
-    for i in 0..BLOCK {
-        holds = holds | (input[start + i] == b'&');
+    for b in block {
+        holds |= *b == b'&';
     }
     holds
 }
@@ -25,14 +22,12 @@ fn pass_blocks(input: &[u8], start: usize) -> usize
     requires { start ≤ length input.now }
     ensures { Reaches input.now start result }
 {
-    let mut i = start;
-    while BLOCK <= input.len() - i {
-        if block_holds(input, i) {
-            return i;
-        }
-        i += BLOCK;
-    }
-    i
+    let (blocks, _) = input[start..].as_chunks::<BLOCK>();
+    let passed = blocks
+        .iter()
+        .take_while(|block| !holds_ampersand(block))
+        .count();
+    start + BLOCK * passed
 }
 
 // The first `&` from an index on and before another, or the other.
@@ -40,14 +35,10 @@ fn first_ampersand(input: &[u8], start: usize, limit: usize) -> usize
     requires { (start ≤ limit) × (limit ≤ length input.now) }
     ensures { FirstAmpersand input.now start limit result }
 {
-    let mut i = start;
-    while i < limit {
-        if input[i] == b'&' {
-            return i;
-        }
-        i += 1;
+    match input[start..limit].iter().position(|b| *b == b'&') {
+        Some(passed) => start + passed,
+        None => limit,
     }
-    i
 }
 
 // Where the value that starts at a place ends: byte by byte over the first block, so that a short value costs little,
@@ -64,6 +55,5 @@ pub fn value_end(input: &[u8], place: usize) -> usize
     if near < place + BLOCK {
         return near;
     }
-    let far = pass_blocks(input, near);
-    first_ampersand(input, far, len)
+    first_ampersand(input, pass_blocks(input, near), len)
 }

@@ -1,8 +1,8 @@
 // One taking (READING, 'Takings').
 ghost use Rattle.std.specs.Prelude.{◌≡◌, ◌≤◌, length, drop};
 ghost use Rattle.std.proofs.Math.Option.{some};
-ghost use Rattle.reading.specs.Taking.{symbol_of, escape};
-ghost use Rattle.cursor.specs.Takings.{yielded, number, same_symbol, escape_of, escape_in, advanced, Next};
+ghost use Rattle.reading.specs.Taking.{symbol_of};
+ghost use Rattle.cursor.specs.Takings.{yielded, same_symbol, bracket_of, escape_ahead, escape_in, advanced, Next};
 
 use config::Config;
 
@@ -16,7 +16,7 @@ pub struct Cursor {
 }
 
 // What a taking yields: `&`, `=`, `[`, `]`, another byte, or the input's end.
-#[derive(Clone, Copy)]
+#[derive(Clone, Copy, PartialEq, Eq)]
 pub enum Symbol {
     Ampersand,
     Equals,
@@ -33,34 +33,12 @@ pub struct Taken {
     pub cursor: Cursor,
 }
 
-// An escaped `[`, an escaped `]`, or neither.
-#[derive(Clone, Copy)]
-enum Escape {
-    Opens,
-    Closes,
-    Neither,
-}
-
 impl Symbol {
-    // The symbol's number, by which two are compared.
-    fn number(self) -> u8
-        ensures { result ≡ number self }
-    {
-        match self {
-            Symbol::Ampersand => 0,
-            Symbol::Equals => 1,
-            Symbol::Opening => 2,
-            Symbol::Closing => 3,
-            Symbol::Other => 4,
-            Symbol::End => 5,
-        }
-    }
-
     // Whether this is that symbol.
     pub fn is(self, symbol: Symbol) -> bool
         ensures { result ≡ same_symbol self symbol }
     {
-        self.number() == symbol.number()
+        self == symbol
     }
 }
 
@@ -68,52 +46,36 @@ impl Symbol {
 fn symbol_of(b: u8) -> Symbol
     ensures { yielded result ≡ some (symbol_of b) }
 {
-    if b == b'&' {
-        return Symbol::Ampersand;
+    match b {
+        b'&' => Symbol::Ampersand,
+        b'=' => Symbol::Equals,
+        b'[' => Symbol::Opening,
+        b']' => Symbol::Closing,
+        _ => Symbol::Other,
     }
-    if b == b'=' {
-        return Symbol::Equals;
-    }
-    if b == b'[' {
-        return Symbol::Opening;
-    }
-    if b == b']' {
-        return Symbol::Closing;
-    }
-    Symbol::Other
 }
 
-// Whether three bytes are exactly `%5B` or `%5D`.
-fn escape_of(b: u8, c: u8, d: u8) -> Escape
-    ensures { escape_of result ≡ escape b c d }
+// The bracket whose escape bytes start with, exactly `%5B` or `%5D`.
+fn escaped_bracket(bytes: &[u8]) -> Option<Symbol>
+    ensures { result ≡ bracket_of (escape_ahead bytes.now) }
 {
-    if b != b'%' {
-        return Escape::Neither;
+    match *bytes {
+        [b'%', b'5', b'B', ..] => Some(Symbol::Opening),
+        [b'%', b'5', b'D', ..] => Some(Symbol::Closing),
+        _ => None,
     }
-    if c != b'5' {
-        return Escape::Neither;
-    }
-    if d == b'B' {
-        return Escape::Opens;
-    }
-    if d == b'D' {
-        return Escape::Closes;
-    }
-    Escape::Neither
 }
 
 // The escaped bracket that stands at a place, if the flag is on.
-fn escape_at(input: &[u8], config: Config, place: usize) -> Escape
+fn escape_at(input: &[u8], config: Config, place: usize) -> Option<Symbol>
     requires { place ≤ length input.now }
-    ensures { escape_of result ≡ escape_in config (drop place input.now) }
+    ensures { result ≡ bracket_of (escape_in config (drop place input.now)) }
 {
-    if input.len() - place < 3 {
-        return Escape::Neither;
-    }
     if config.form {
-        return escape_of(input[place], input[place + 1], input[place + 2]);
+        escaped_bracket(&input[place..])
+    } else {
+        None
     }
-    Escape::Neither
 }
 
 // The symbol, and the cursor moved on to a place. The segment now ends at the place before; its start stays.
@@ -141,9 +103,8 @@ fn step(input: &[u8], config: Config, cursor: Cursor) -> Taken
         return advance(Symbol::End, cursor, place + 1);
     }
     match escape_at(input, config, place) {
-        Escape::Opens => advance(Symbol::Opening, cursor, place + 3),
-        Escape::Closes => advance(Symbol::Closing, cursor, place + 3),
-        Escape::Neither => advance(symbol_of(input[place]), cursor, place + 1),
+        Some(bracket) => advance(bracket, cursor, place + 3),
+        None => advance(symbol_of(input[place]), cursor, place + 1),
     }
 }
 

@@ -1,9 +1,11 @@
 -- A value ends at the first `&` or the end, and its segment is empty where that is the place itself.
 use Rattle.cursor.proofs.Collected.{value_null, value-string}
 use Rattle.cursor.proofs.collecting.collect_value.Goals as goal
-
-pub returns-then-end-place : goal.returns-then-end-place
-returns-then-end-place c = value_null c.value_end-end.ensures c.if-end-place.true
+use Rattle.cursor.proofs.collecting.collect_value.Goals.{then-end-place, else-end-place}
 
 pub returns : goal.returns
-returns c = value-string c.value_end-end.ensures c.if-end-place.false
+returns c =
+    elim c.if-end-place.branch [
+      | then-end-place w ↦ rw w.leaf-is (value_null c.value_end-end.ensures w.if-end-place.true)
+      | else-end-place w ↦ rw w.leaf-is (value-string c.value_end-end.ensures w.if-end-place.false)
+    ]

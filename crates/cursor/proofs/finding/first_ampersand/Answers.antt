@@ -1,15 +1,21 @@
-use native.Mathlib.Omega.{arith}
-use Rattle.cursor.proofs.Ampersands.{reaches_start, reaches_byte, ends_byte, ends_limit}
+-- What is found is the first `&` of the part that is looked at.
+use Rattle.std.proofs.Common.{◌≡◌, ◌-◌, take, drop, rules, tests}
+use Rattle.std.proofs.lemmas.Iterator.{YieldsList-from_slice, IsFirst-from_position}
+use Rattle.cursor.proofs.Ampersands.{ends_found, ends_limit}
 use Rattle.cursor.proofs.finding.first_ampersand.Goals as goal
 
-pub loop-i-init : goal.loop-i-init
-loop-i-init c = (reaches_start (omega arith), c.requires.0)
+pub returns-in-Some : goal.returns-in-Some
+returns-in-Some c =
+    let s = c.args in
+    let part = take (s.limit - s.start) (drop s.start s.input.now) in
+    let f = IsFirst-from_position _ _ _ (λ b. b ≡ 38) (λ b. b ≡ 38 → ⊥) c.in-Some.ensures.ran (YieldsList-from_slice part cc)
+    (λ x q k. search (rules, tests)) (λ x q k. search (rules, tests)) in
+    ends_found s.input.now s.start s.limit c.in-Some.passed c.requires.0 c.requires.1 f.0 f.1 f.2
 
-pub returns-then-input-i-eq38 : goal.returns-then-input-i-eq38
-returns-then-input-i-eq38 c = let v = c.loop-i.invariant in ends_byte v.0 v.1 c.if-input-i-eq38.true
-
-pub loop-i-preserved : goal.loop-i-preserved
-loop-i-preserved c = (reaches_byte c.loop-i.invariant.0 (omega arith) c.if-input-i-eq38.false, omega arith)
-
-pub returns : goal.returns
-returns c = let v = c.loop-i.invariant in ends_limit v.0 v.1 c.loop-i-test.false
+pub returns-in-None : goal.returns-in-None
+returns-in-None c =
+    let s = c.args in
+    let part = take (s.limit - s.start) (drop s.start s.input.now) in
+    ends_limit s.input.now s.start s.limit c.requires.0 c.requires.1
+    (IsFirst-from_position _ _ _ (λ b. b ≡ 38) (λ b. b ≡ 38 → ⊥) c.in-None.ensures.ran (YieldsList-from_slice part cc)
+    (λ x q k. search (rules, tests)) (λ x q k. search (rules, tests)))

@@ -7,4 +7,4 @@ pub returns-then-near-place : goal.returns-then-near-place
 returns-then-near-place c = ends_near c.first_ampersand-near.ensures c.if-near-place.true (omega arith)
 
 pub returns : goal.returns
-returns c = ends_far c.first_ampersand-near.ensures c.pass_blocks-far.ensures c.first_ampersand-2.ensures
+returns c = ends_far c.first_ampersand-near.ensures c.pass_blocks.ensures c.first_ampersand-2.ensures
