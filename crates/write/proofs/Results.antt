@@ -1,5 +1,5 @@
 -- The ends of the call: the reading refused, the output too short, and the input written.
-use Rattle.std.specs.Prelude.{Result}
+use Rattle.std.specs.Prelude.{Result as Either}
 use Prim.Native.Nat.{ℕ, ◌≤◌}
 use mathlib.Core.Path.{◌≡◌, refl, sym, ap, ◌∙◌, subst}
 use mathlib.Core.Logic.{◌≢◌}
@@ -74,7 +74,7 @@ module _ (bytes out : List ℕ) {len : ℕ} {r : Bool} (measured : len ≡ lengt
 pub fits-small : (len size : ℕ) {r : Bool} → r ≡ (leb len size && leb len max_len) → r ≡ true → len ≤ max_len
 fits-small len size told t = leb-true len max_len (halves (leb len size) (leb len max_len) (sym told ∙ t)).1
 
-module _ (config : Config) (input words text W X : List ℕ) (p : Result UsedThere Refused) {reading : Reading} (told : reading ≡ answer_of p)
+module _ (config : Config) (input words text W X : List ℕ) (p : Either UsedThere Refused) {reading : Reading} (told : reading ≡ answer_of p)
     (ensured : parsed_outcome p W X ≡ outcome_of (read config input words text)) (out : List ℕ) where
   abbrev it : Outcome
   it = after_it config input words text W X p told ensured
