@@ -41,36 +41,25 @@ fn agrees_behind(
 
 // Makes both readings of a case, whose input stands behind the bytes in front.
 fn agrees_twice(case: Case, input: &[u8], left: &[u8], words: &mut [u32], text: &mut [u8]) -> bool {
-    if input.len() < LEAD {
+    let Some(query) = input.get(LEAD..) else {
         return false;
-    }
-    if !agrees(case, &input[LEAD..], left, words, text) {
-        return false;
-    }
-    agrees_behind(case, input, left, words, text)
+    };
+    agrees(case, query, left, words, text) && agrees_behind(case, input, left, words, text)
 }
 
 // Hands a case the part of each slice that is its own, and makes its readings. False where a slice is too short.
 fn replay_in(case: Case, input: &[u8], left: &[u8], words: &mut [u32], text: &mut [u8]) -> bool {
     let len = LEAD + case.len as usize;
-    let word_count = case.words as usize;
-    let text_count = case.text as usize;
-    if input.len() < len {
+    let Some(input) = input.get(..len) else {
         return false;
-    }
-    if words.len() < word_count {
+    };
+    let Some(words) = words.get_mut(..case.words as usize) else {
         return false;
-    }
-    if text.len() < text_count {
+    };
+    let Some(text) = text.get_mut(..case.text as usize) else {
         return false;
-    }
-    agrees_twice(
-        case,
-        &input[0..len],
-        left,
-        &mut words[0..word_count],
-        &mut text[0..text_count],
-    )
+    };
+    agrees_twice(case, input, left, words, text)
 }
 
 // Reads the next case, behind the bytes in front, and makes its readings. False where one differs, or where the input
@@ -83,21 +72,16 @@ fn replay_case<R: Read>(
     text: &mut [u8],
 ) -> io::Result<bool> {
     let mut head = [0u8; 36];
-    let got = input::read_full(from, &mut head)?;
-    if got < 36 {
+    if input::read_full(from, &mut head)? < 36 {
         return Ok(false);
     }
     let case = stored::case_of(&head);
-    if input.len() < LEAD {
+    let Some(query) = input.get_mut(LEAD..) else {
         return Ok(false);
-    }
-    if !stored::read(from, &mut input[LEAD..], case.len as usize)? {
-        return Ok(false);
-    }
-    if !stored::read(from, left, stored::left_len(case))? {
-        return Ok(false);
-    }
-    Ok(replay_in(case, input, left, words, text))
+    };
+    let whole = stored::read(from, query, case.len as usize)?
+        && stored::read(from, left, stored::left_len(case))?;
+    Ok(whole && replay_in(case, input, left, words, text))
 }
 
 // Writes a text, a number and a text.
@@ -117,13 +101,11 @@ fn replay<R: Read, W: Write>(
     words: &mut [u32],
     text: &mut [u8],
 ) -> io::Result<u32> {
-    let mut done = 0u32;
-    let mut differ = 0u32;
-    while done < count {
-        done += 1;
+    let mut differ = 0;
+    for done in 0..count {
         if !replay_case(from, input, left, words, text)? {
             differ += 1;
-            print(to, b"case ", done, b" differs\n")?;
+            print(to, b"case ", done + 1, b" differs\n")?;
         }
     }
     Ok(differ)

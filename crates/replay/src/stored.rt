@@ -18,20 +18,11 @@ pub(crate) struct Case {
     pub answer: Reading,
 }
 
-// The number in two bytes, lower byte first.
-fn half(low: u8, high: u8) -> u32
-    ensures { result ≤ 65535 }
-{
-    low as u32 + (high as u32) * 256
-}
-
 // The number in the four bytes from a place on, lowest byte first.
-pub(crate) fn number_at(bytes: &[u8], at: usize) -> u32
+fn number_at(bytes: &[u8], at: usize) -> u32
     requires { at + 4 ≤ length bytes.now }
 {
-    let low = half(bytes[at], bytes[at + 1]);
-    let high = half(bytes[at + 2], bytes[at + 3]);
-    low + high * 65536
+    u32::from_le_bytes([bytes[at], bytes[at + 1], bytes[at + 2], bytes[at + 3]])
 }
 
 // The front of a case.
@@ -67,11 +58,10 @@ pub(crate) fn left_len(case: Case) -> usize {
 
 // Reads the next n bytes of the input to the front of a slice, and tells whether they were there and found room.
 pub(crate) fn read<R: Read>(from: &mut R, buffer: &mut [u8], n: usize) -> io::Result<bool> {
-    if buffer.len() < n {
-        return Ok(false);
+    match buffer.get_mut(..n) {
+        Some(part) => Ok(input::read_full(from, part)? == n),
+        None => Ok(false),
     }
-    let got = input::read_full(from, &mut buffer[0..n])?;
-    Ok(got == n)
 }
 
 // Reads the number of cases, with which the input begins: 0 where it is cut short.
