@@ -42,53 +42,44 @@ impl Due {
     }
 
     // What is due after the first byte of a character, where so many more are needed.
+    #[tactic(auto, unfolding(crate::specs::Test::second))]
     fn second(needed: u8, byte: u8) -> Due
         ensures { result ≡ second needed byte }
     {
-        if byte == 0xE0 {
-            Due::new(needed, 0xA0, 0xBF)
-        } else if byte == 0xED {
-            Due::new(needed, 0x80, 0x9F)
-        } else if byte == 0xF0 {
-            Due::new(needed, 0x90, 0xBF)
-        } else if byte == 0xF4 {
-            Due::new(needed, 0x80, 0x8F)
-        } else {
-            Due::tails(needed)
+        match byte {
+            0xE0 => Due::new(needed, 0xA0, 0xBF),
+            0xED => Due::new(needed, 0x80, 0x9F),
+            0xF0 => Due::new(needed, 0x90, 0xBF),
+            0xF4 => Due::new(needed, 0x80, 0x8F),
+            _ => Due::tails(needed),
         }
     }
 
     // What is due after a byte where no character is begun.
+    #[tactic(auto, unfolding(crate::specs::Test::first))]
     fn first(byte: u8) -> Due
         ensures { result ≡ first byte }
     {
-        if byte < 0x80 {
-            Due::tails(0)
-        } else if byte < 0xC2 {
-            Due::REFUSED
-        } else if byte < 0xE0 {
-            Due::tails(1)
-        } else if byte < 0xF0 {
-            Due::second(2, byte)
-        } else if byte < 0xF5 {
-            Due::second(3, byte)
-        } else {
-            Due::REFUSED
+        match byte {
+            0x00..=0x7F => Due::tails(0),
+            0xC2..=0xDF => Due::tails(1),
+            0xE0..=0xEF => Due::second(2, byte),
+            0xF0..=0xF4 => Due::second(3, byte),
+            _ => Due::REFUSED,
         }
     }
 
     // What is due after any byte.
+    #[tactic(auto, unfolding(crate::specs::Test::next))]
     fn next(self, byte: u8) -> Due
         ensures { result ≡ next self byte }
     {
         if self.needed == 0 {
             Due::first(byte)
-        } else if byte < self.lower {
-            Due::REFUSED
-        } else if self.upper < byte {
-            Due::REFUSED
-        } else {
+        } else if (self.lower..=self.upper).contains(&byte) {
             Due::tails(self.needed - 1)
+        } else {
+            Due::REFUSED
         }
     }
 }
@@ -99,10 +90,8 @@ pub fn is_utf8(bytes: &[u8]) -> bool
     ensures decides { Decides result bytes.now }
 {
     let mut due = Due::tails(0);
-    let mut i = 0;
-    while i < bytes.len() {
-        due = due.next(bytes[i]);
-        i += 1;
+    for byte in bytes {
+        due = due.next(*byte);
     }
     due.needed == 0
 }
