@@ -1,4 +1,4 @@
-// A record's row: how wide it is, in which word a thing stands, and which numbers stand for kinds; and the lent words
+// A record's row: how wide it is, in which word a thing stands, and the kinds with their numbers; and the lent words
 // and text by it. Its numbers are specs/Row, and `word` (specs/Words) is a word of a record. All that reads or writes a
 // record stands on it.
 // Nothing stands below it.
@@ -33,26 +33,6 @@ pub const TEXT_LEN: usize = 5;
 pub const CHILD: usize = 6;
 
 pub const NEXT: usize = 7;
-
-// The kinds of a value.
-pub const UNINITIALIZED: u32 = 0;
-
-pub const MAP: u32 = 1;
-
-pub const SEQUENCE: u32 = 2;
-
-pub const STRING: u32 = 3;
-
-pub const NULL: u32 = 4;
-
-pub const NO_VALUE: u32 = 5;
-
-// The kinds of a key.
-pub const NO_KEY: u32 = 0;
-
-pub const INT_KEY: u32 = 1;
-
-pub const STRING_KEY: u32 = 2;
 
 // Whether the words make so many records.
 pub fn has_room(words: &[u32], count: u32) -> bool
