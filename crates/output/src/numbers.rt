@@ -14,7 +14,7 @@ pub fn hex_digit(n: u8) -> u8
     if n < 10 { b'0' + n } else { b'a' - 10 + n }
 }
 
-// How many digits a number has in decimal.
+// How many digits a number has in decimal. (Stays a `while`: it goes down by tens and counts no index.)
 pub fn decimal_len(n: usize) -> usize
     ensures { result ≡ length (decimal n) }
 {
@@ -38,7 +38,8 @@ impl<'a> Output<'a> {
         }
     }
 
-    // Writes a number in decimal: the digits before its last by calling itself, then the last.
+    // Writes a number in decimal: the digits before its last by calling itself, then the last. (Stays by hand: `write!`
+    // into a lent slice that may be too short says nothing of the bytes that were cut.)
     pub fn write_decimal(&mut self, n: usize)
         ensures { Wrote (decimal n) self.old self.new }
     {

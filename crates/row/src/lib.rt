@@ -50,7 +50,8 @@ pub fn get_word(words: &[u32], n: u32, w: usize) -> u32
     words[n as usize * WIDTH + w]
 }
 
-// Word w of record n, or 0 past the words' end: for words that may be any.
+// Word w of record n, or 0 past the words' end: for words that may be any. (Stays beside `get_word`, which asks for the
+// record and so tests nothing: one of both would test on the reader's hot path.)
 #[tactic(auto, unfolding(crate::specs::Words::word))]
 pub fn word_or_zero(words: &[u32], n: u32, w: usize) -> u32
     requires { w < record_width }
