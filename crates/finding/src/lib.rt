@@ -34,9 +34,9 @@ const FROM_FINGER: usize = 8;
 
 // Where a walk along siblings stands: at one, behind another, 0 standing for none.
 #[derive(Clone, Copy)]
-pub struct Walk {
-    pub prev: u32,
-    pub cur: u32,
+struct Walk {
+    prev: u32,
+    cur: u32,
 }
 
 // The record that is proposed, if the aids know it as a child of the parent.

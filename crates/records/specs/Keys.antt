@@ -1,5 +1,5 @@
 -- The key of a record, and a key that is handed in.
-use Rattle.std.specs.Prelude.{ℕ, ◌+◌, ◌≤◌, ◌≡◌, Bool, true, false, cond, List, eqb, length}
+use Rattle.std.specs.Prelude.{ℕ, ◌+◌, ◌≤◌, ◌≡◌, Bool, cond, List, eqb, length}
 use Rattle.decode.specs.Decoding.{decoded}
 use Rattle.key.specs.Keys.{Key, int, str}
 use Rattle.key.specs.declared.KeyKind.{KeyKind}
@@ -36,12 +36,7 @@ meant_key None raw = str (decoded raw)
 meant_key (Int i) raw = int i
 meant_key String raw = str (decoded raw)
 
--- Whether a key is an Int, and its value then.
-abbrev pub of_int : KeyKind → Bool
-of_int None = false
-of_int (Int i) = true
-of_int String = false
-
+-- The value of an Int, 0 of another key.
 abbrev pub int_of : KeyKind → ℕ
 int_of None = 0
 int_of (Int i) = i
@@ -54,4 +49,6 @@ unescaped escaped bytes = cond escaped (decoded bytes) bytes
 -- The key that is looked for: an Int, or else a String of the bytes beside it. That of a raw segment, which is escaped,
 -- is the key that is meant.
 unfoldable pub sought_key : KeyKind → Bool → List ℕ → Key
-sought_key key escaped bytes = cond (of_int key) (int (int_of key)) (str (unescaped escaped bytes))
+sought_key None escaped bytes = str (unescaped escaped bytes)
+sought_key (Int i) escaped bytes = int i
+sought_key String escaped bytes = str (unescaped escaped bytes)

@@ -4,7 +4,7 @@ use Rattle.tags.specs.Tags.{ordering_of}
 use Rattle.tags.proofs.Comparing.{ordering-numbers}
 use native.Mathlib.Omega.{arith}
 use Rattle.tags.proofs.Heads.{are_bytes}
-use Rattle.records.proofs.Tagged.{tagged-kind, tagged_differ, tagged-int, tagged_short, tagged-string}
+use Rattle.records.proofs.Tagged.{tagged-kind, tagged_differ, tagged_short}
 use Rattle.records.proofs.keys.compare_tagged.Goals as goal
 
 pub returns-then-t-tag : goal.returns-then-t-tag
@@ -14,10 +14,6 @@ returns-then-t-tag c =
     ∙ tagged_differ c.args.words.now text c.args.n c.type_inv.words
     (are_bytes text c.type_inv.text)
     (are_bytes c.args.name.now c.type_inv.name) c.tag_at-t.ensures c.if-t-tag.true k s
-
-pub returns-then-tag-lt-STRING_TAG : goal.returns-then-tag-lt-STRING_TAG
-returns-then-tag-lt-STRING_TAG c =
-    λ k s. tagged-int c.args.words.now c.args.text.now c.args.n c.tag_at-t.ensures c.if-t-tag.false c.if-tag-lt-STRING_TAG.true k s
 
 pub returns-then-name-lt8 : goal.returns-then-name-lt8
 returns-then-name-lt8 c =
@@ -31,7 +27,3 @@ returns-then-name-lt8 c =
 pub name_of-requires : goal.name_of-requires
 name_of-requires c =
     record { inside = c.requires; is_string = tagged-kind c.args.words.now c.args.text.now c.args.n c.type_inv.words (omega arith) }
-
-pub returns : goal.returns
-returns c =
-    λ k s. rw (← tagged-string c.if-tag-lt-STRING_TAG.false k s, c.name_of.ensures) c.compare_bytes.ensures
