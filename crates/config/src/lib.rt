@@ -61,3 +61,11 @@ impl Config {
         Config::MAX_LEN < len
     }
 }
+
+impl Default for Config {
+    ghost is_default = { λ config. config ≡ defaults };
+
+    fn default() -> Config {
+        Config::new()
+    }
+}

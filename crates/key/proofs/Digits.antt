@@ -1,10 +1,10 @@
 -- The loop of `leading_int`: up to a byte all are digits whose value is an Int; and what the longest Int tells of a key.
 use mathlib.Core.Path.{◌≡◌, refl, sym, ap, ap₂, ◌∙◌}
-use mathlib.Core.Bool.{Bool, true, false, cond, not, ◌&&◌, ◌||◌}
+use mathlib.Core.Bool.{Bool, true, false, cond, not, ◌&&◌}
 use mathlib.Core.List.{List, [], ◌∷◌, ◌++◌}
 use Prim.Native.Nat.{ℕ, zero, suc, ◌+◌, ◌*◌, ◌-◌, ◌≤◌, ◌<◌}
 use native.Mathlib.Omega.{arith}
-use borrow.Author.Tests.{le-leb, lt-leb, lt-ltb, le-ltb, leb-true, ltb-true, ltb-false, eq-eqb, ne_eqb}
+use borrow.Author.Tests.{le-leb, lt-leb, leb-true, ltb-true, ltb-false, eq-eqb, ne_eqb}
 use lib.Dec.{eqb, leb, ltb}
 use lib.ListN.{length, take, drop, get_or}
 use lib.Seq.{take-add, take-length, length-take-le}
@@ -20,16 +20,6 @@ use Rattle.key.specs.declared.LeadingInt.{LeadingInt}
 use Rattle.key.specs.Keys.{int, str, max_int, needless_zero, is_padded, is_int}
 use Rattle.key.specs.Collected.{key, collected, key_in}
 use Rattle.key.specs.Leading.{LongestInt, OneLongest, Tells}
-
--- The code's test of a byte, which is true of one that is no digit.
-abbrev outside : ℕ → Bool
-outside b = ltb b 48 || ltb 57 b
-
-digit_test : (b : ℕ) → is_digit b ≡ not (outside b)
-digit_test b =
-    below b 48 (λ h. rw (lt-leb 48 b h, lt-ltb b 48 h))
-    (λ h. below 57 b (λ k. rw (le-leb 48 b h, lt-leb b 57 k, le-ltb b 48 h, lt-ltb 57 b k))
-    (λ k. rw (le-leb 48 b h, le-leb b 57 k, le-ltb b 48 h, le-ltb 57 b k)))
 
 pub never : (b : Bool) → b && false ≡ false
 never true = refl
@@ -119,12 +109,6 @@ module _ {config : Config} {s : List ℕ} {i v : ℕ} (r : Summed config s i v) 
     unfolding value_from
     value_on = rw (front s i n h k, value_join 0 (take i s), r.value)
 
-  is_digit_lem : outside (get_or s i 0) ≡ false → is_digit (get_or s i 0) ≡ true
-  is_digit_lem e = digit_test (get_or s i 0) ∙ ap not e
-
-  pub digit_here : outside (get_or s i 0) ≡ false → (48 ≤ get_or s i 0) × (get_or s i 0 ≤ 57)
-  digit_here e = digit_is (get_or s i 0) (is_digit_lem e)
-
   -- A digit more makes no zero in front needless, where none counts or the value isn't below the number of digits.
   first-not-zero : config.zeros ≡ true → 1 ≤ i → i ≤ v → get_or s 0 0 ≡ 48 → ⊥
   first-not-zero e h k z =
@@ -144,14 +128,14 @@ module _ {config : Config} {s : List ℕ} {i v : ℕ} (r : Summed config s i v) 
       (λ m. rw (fewer (take (i + 1) s) (omega (arith, length-take-le (i + 1) s (omega arith)))) (never config.zeros)))
       (λ e. rw e)
 
-  pub summed_more : i < length s → outside (get_or s i 0) ≡ false → config.zeros && ltb v i ≡ false → v * 10 + (get_or s i 0 - 48) ≤ max_int
+  pub summed_more : i < length s → is_digit (get_or s i 0) ≡ true → config.zeros && ltb v i ≡ false → v * 10 + (get_or s i 0 - 48) ≤ max_int
       → Summed config s (i + 1) (v * 10 + (get_or s i 0 - 48))
   unfolding all_digits value_from
   summed_more h d t m =
       let e : i + 1 - (i + 1) ≡ 0 = omega arith in
       record {
         within = omega arith;
-        digits = digits-on (i + 1) (omega arith) (omega arith) ∙ rw (e, is_digit_lem d);
+        digits = digits-on (i + 1) (omega arith) (omega arith) ∙ rw (e, d);
         value = value_on (i + 1) (omega arith) (omega arith) ∙ rw e;
         small = m;
         unpadded = still-unpadded h t;
@@ -179,9 +163,8 @@ module _ {config : Config} {s : List ℕ} {i v : ℕ} (r : Summed config s i v) 
       longest-here (λ n h m.
       rw (by_first s n (omega arith) m, z, e.0) (never (all_digits (take n s) && leb (value_from 0 (take n s)) max_int)))
 
-  pub longest_byte : outside (get_or s i 0) ≡ true → LongestInt config s (record { len = i; value = v })
-  longest_byte e =
-      let d : is_digit (get_or s i 0) ≡ false = digit_test (get_or s i 0) ∙ ap not e in longest-here (λ n h k. rw (digits-on n h k, d))
+  pub longest_byte : is_digit (get_or s i 0) ≡ false → LongestInt config s (record { len = i; value = v })
+  longest_byte d = longest-here (λ n h k. rw (digits-on n h k, d))
 
   pub longest-sum : max_int < v * 10 + (get_or s i 0 - 48) → LongestInt config s (record { len = i; value = v })
   longest-sum m =

@@ -35,34 +35,26 @@ const MAX_INT: u64 = 4294967295;
 pub fn leading_int(config: Config, bytes: &[u8]) -> LeadingInt
     ensures { LongestInt config bytes.now result }
 {
-    let mut len = 0;
     let mut value: u64 = 0;
-    while len < bytes.len() {
-        let b = bytes[len];
-        if (b < b'0') | (b'9' < b) {
-            return LeadingInt {
-                len,
-                value: value as u32,
-            };
+    for (len, b) in bytes.iter().enumerate() {
+        let leading = LeadingInt {
+            len,
+            value: value as u32,
+        };
+        if !b.is_ascii_digit() {
+            return leading;
         }
-        let sum = value * 10 + (b - b'0') as u64;
+        let sum = value * 10 + u64::from(*b - b'0');
         if config.zeros & (value < len as u64) {
-            return LeadingInt {
-                len,
-                value: value as u32,
-            };
+            return leading;
         }
         if MAX_INT < sum {
-            return LeadingInt {
-                len,
-                value: value as u32,
-            };
+            return leading;
         }
         value = sum;
-        len += 1;
     }
     LeadingInt {
-        len,
+        len: bytes.len(),
         value: value as u32,
     }
 }
