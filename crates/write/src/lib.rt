@@ -41,7 +41,7 @@ fn answered(reading: Reading, length: u32) -> Written
 fn fits(len: usize, size: usize) -> bool
     ensures { result ≡ (leb len size && leb len max_len) }
 {
-    (len <= size) & (len <= Config::MAX_LEN)
+    len <= size && len <= Config::MAX_LEN
 }
 
 // Reads the input into the lent words and text, and writes an input that reads back as its tree into the lent output.
@@ -62,10 +62,10 @@ pub fn write(
     }
         ≡ writing config input.now words.old text.old out.old }
 {
-    let reading = Reading::from(parse::parse(input, config, words, text));
-    if reading.number != 0 {
-        return answered(reading, 0);
-    }
+    let reading = match parse::parse(input, config, words, text) {
+        Ok(used) => Reading::from(used),
+        Err(refused) => return answered(refused.into(), 0),
+    };
     let len = writer::measure(config, words, text);
     if !fits(len, out.len()) {
         return answered(reading.refused_by(Refusal::ShortOutput), 0);
