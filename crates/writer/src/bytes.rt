@@ -32,7 +32,6 @@ pub(crate) fn put(byte: u8, out: &mut [u8], at: usize) -> usize
     }
     if at < out.len() {
         out[at] = byte;
-        return at + 1;
     }
     at + 1
 }

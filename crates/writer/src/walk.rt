@@ -93,8 +93,7 @@ fn open(place: Place, out: &mut [u8], from: Progress) -> Place
     Place {
         start,
         end,
-        level: place.level,
-        repeats: place.repeats,
+        ..place
     }
 }
 
@@ -104,10 +103,9 @@ fn enter_empty(place: Place) -> Place
     ensures { result ≡ place_under_empty place }
 {
     Place {
-        start: place.start,
-        end: place.end,
         level: place.level + 1,
         repeats: true,
+        ..place
     }
 }
 
@@ -116,25 +114,16 @@ fn bracket(place: Place, out: &mut [u8]) -> Place
     requires { place.level + 1 < 2 ^ 64 }
     ensures { Moves in_sequence place result out.old out.new }
 {
-    let start = place.start;
     let level = place.level + 1;
-    let repeats = place.repeats;
-    if repeats {
-        let end = place.end;
-        return Place {
-            start,
-            end,
-            level,
-            repeats,
-        };
+    if place.repeats {
+        return Place { level, ..place };
     }
     let inner = bytes::put(b'[', out, place.end);
     let end = bytes::put(b']', out, inner);
     Place {
-        start,
         end,
         level,
-        repeats,
+        ..place
     }
 }
 
@@ -184,10 +173,10 @@ impl Source<'_> {
         let end = self.write_part(Keyed { n, level }, out, child.place.end);
         let deep = keys::is_at_depth(self.config, level);
         Place {
-            start: child.place.start,
             end,
             level,
             repeats: (self.config.depth == 0) | deep,
+            ..child.place
         }
     }
 

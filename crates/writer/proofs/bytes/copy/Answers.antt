@@ -1,6 +1,5 @@
 -- No key, one of which nothing can be stored, one that there is room for, and any other byte by byte.
-use native.Mathlib.Omega.{arith}
-use Rattle.writer.proofs.Runs.{again-before, again-room}
+use Rattle.writer.proofs.Runs.{again-room}
 use Rattle.writer.proofs.Copies.{copies_nothing, copies_unseen, copies_stored}
 use Rattle.writer.proofs.bytes.copy.Goals as goal
 
@@ -9,13 +8,6 @@ returns-then-end-start c = copies_nothing _ c.if-end-start.true
 
 pub returns-then-out-at : goal.returns-then-out-at
 returns-then-out-at c = copies_unseen _ _ c.if-out-at.true c.advance.ensures
-
-pub lay_again-requires : goal.lay_again-requires
-lay_again-requires c =
-    let s = c.args in (
-      again-room s.start s.end s.out.now c.has_room_again.ensures c.if-has_room_again.true,
-      omega (arith, again-before s.start s.end s.out.now c.has_room_again.ensures c.if-has_room_again.true),
-    )
 
 pub returns-then-has_room_again : goal.returns-then-has_room_again
 returns-then-has_room_again c =

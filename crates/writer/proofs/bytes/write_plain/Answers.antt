@@ -1,11 +1,7 @@
 -- Nothing can be stored, or all, or byte by byte.
-use Rattle.writer.proofs.Runs.{puts_unseen, plain-length, room}
+use Rattle.writer.proofs.Runs.{puts_unseen, plain-length}
 use Rattle.writer.proofs.bytes.write_plain.Goals as goal
 
 pub returns-then-out-at : goal.returns-then-out-at
 returns-then-out-at c =
     puts_unseen _ _ _ c.if-out-at.true (plain-length c.args.bytes.now c.requires) c.advance.ensures
-
-pub lay-requires : goal.lay-requires
-lay-requires c =
-    (room c.args.out.now c.has_room.ensures c.if-has_room.true, c.requires)

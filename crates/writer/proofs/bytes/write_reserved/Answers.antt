@@ -3,7 +3,7 @@ use mathlib.Core.Path.{ap, ◌∙◌}
 use Prim.Native.Nat.{◌+◌, ◌*◌}
 use lib.ListN.{length}
 use native.Mathlib.Omega.{arith}
-use Rattle.writer.proofs.Runs.{puts_unseen, escaped-length, count_bound, room}
+use Rattle.writer.proofs.Runs.{puts_unseen, escaped-length, count_bound}
 use Rattle.writer.proofs.bytes.write_reserved.Goals as goal
 
 pub overflow_mul-count_reserved : goal.overflow_mul-count_reserved
@@ -19,7 +19,3 @@ returns-then-out-at c =
     puts_unseen _ _ _ c.if-out-at.true
     (ap (λ n. length c.args.bytes.now + 2 * n) c.count_reserved.ensures ∙ escaped-length c.args.bytes.now)
     c.advance.ensures
-
-pub lay_each-requires : goal.lay_each-requires
-lay_each-requires c =
-    room c.args.out.now c.has_room.ensures c.if-has_room.true
