@@ -1,40 +1,29 @@
--- The loop that looks for the end of a line.
-use mathlib.Core.Path.{◌≡◌, refl}
-use mathlib.Core.List.{List}
-use Prim.Native.Nat.{ℕ, ◌+◌, ◌≤◌, ◌<◌}
-use native.Mathlib.Omega.{arith}
-use borrow.Author.Tests.{ne_eqb}
-use lib.ListN.{length, drop, get_or, drop_of_length-le}
-use Rattle.laws.proofs.Lists.{drop_1}
+-- Where a line ends: before the first newline, or with the input.
+use Rattle.std.proofs.Common.{◌≡◌, ℕ, zero, suc, ◌+◌, ◌≤◌, ◌<◌, List, [], ◌∷◌, length, length-drop, drop, refl, ap, arith, ne_eqb}
+use Rattle.std.specs.List.{AllWithin, HoldsAt}
 use Rattle.show.specs.Lines.{line_length, EndsAt}
 
--- What is left of the line from here on gives its end.
-pub record Seeking (input : List ℕ) (start end : ℕ) : Type 0 where
-  pub within : end ≤ length input
-  pub so_far : end + line_length (drop end input) ≡ start + line_length (drop start input)
-
-pub seeking_start : (input : List ℕ) (start : ℕ) → start ≤ length input → Seeking input start start
-seeking_start input start h = record { within = h; so_far = refl }
-
-module _ (input : List ℕ) (end : ℕ) (h : end < length input) where
-  at-newline : get_or input end 0 ≡ 10 → line_length (drop end input) ≡ 0
-  unfolding line_length
-  at-newline e = rw (drop_1 input end h, e)
-
-  at_other : (get_or input end 0 ≡ 10 → ⊥) → line_length (drop end input) ≡ 1 + line_length (drop (end + 1) input)
-  unfolding line_length
-  at_other ne = rw (drop_1 input end h) (simp (ne_eqb (get_or input end 0) 10 ne) (omega arith))
-
-at-end : (input : List ℕ) (end : ℕ) → length input ≤ end → line_length (drop end input) ≡ 0
+-- The first newline, or none, by what stands before it.
+found : (l : List ℕ) (n : ℕ) → n < length l → HoldsAt (λ b. b ≡ 10) l n → AllWithin (λ b. b ≡ 10 → ⊥) l 0 n → line_length l ≡ n
 unfolding line_length
-at-end input end h = rw (drop_of_length-le input h)
+found [] n h at all = absurd (omega arith)
+found (x ∷ l) zero h at all = rw (at 0)
+found (x ∷ l) (suc n) h at all =
+    rw (ne_eqb x 10 (all 0 0 (omega arith) (omega arith)))
+    (ap suc (found l n (omega arith) (λ d. at d) (λ k d a b. all (suc k) d (omega arith) (omega arith))))
 
-module _ {input : List ℕ} {start end : ℕ} (v : Seeking input start end) where
-  pub seeking_found : end < length input → get_or input end 0 ≡ 10 → EndsAt input start end
-  seeking_found h e = (omega (arith, at-newline input end h e, v.so_far), v.within)
+none : (l : List ℕ) → AllWithin (λ b. b ≡ 10 → ⊥) l 0 (length l) → line_length l ≡ length l
+unfolding line_length
+none [] all = refl
+none (x ∷ l) all =
+    rw (ne_eqb x 10 (all 0 0 (omega arith) (omega arith)))
+    (ap suc (none l (λ k d a b. all (suc k) d (omega arith) (omega arith))))
 
-  pub seeking_more : end < length input → (get_or input end 0 ≡ 10 → ⊥) → Seeking input start (end + 1)
-  seeking_more h ne = record { within = omega arith; so_far = omega (arith, at_other input end h ne, v.so_far) }
+module _ (input : List ℕ) (start : ℕ) (h : start ≤ length input) where
+  pub ends_found : (n : ℕ) → n < length (drop start input) → HoldsAt (λ b. b ≡ 10) (drop start input) n
+      → AllWithin (λ b. b ≡ 10 → ⊥) (drop start input) 0 n → EndsAt input start (start + n)
+  ends_found n k at all =
+      (omega (arith, found (drop start input) n k at all), omega (arith, length-drop start input))
 
-  pub seeking_done : length input ≤ end → EndsAt input start end
-  seeking_done h = (omega (arith, at-end input end h, v.so_far), v.within)
+  pub ends_none : AllWithin (λ b. b ≡ 10 → ⊥) (drop start input) 0 (length (drop start input)) → EndsAt input start (length input)
+  ends_none all = (omega (arith, none (drop start input) all, length-drop start input), omega arith)

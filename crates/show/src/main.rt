@@ -34,14 +34,10 @@ fn line_end(input: &[u8], start: usize) -> usize
     requires { start ≤ length input.now }
     ensures { EndsAt input.now start result }
 {
-    let mut end = start;
-    while end < input.len() {
-        if input[end] == b'\n' {
-            return end;
-        }
-        end += 1;
+    match input[start..].iter().position(|b| *b == b'\n') {
+        Some(len) => start + len,
+        None => input.len(),
     }
-    end
 }
 
 // Prints the text shown of a raw segment after decoding it into `out`, and a newline.
