@@ -258,6 +258,8 @@ impl Source<'_> {
     // Map's named ones, or elements, in as many steps. Tells whether one was skipped, which is one under the empty key.
     // The next sibling is read last, in both arms: a child's number alone is kept while its value is written. The arms
     // are no function of their own: the structs that it would take and answer cost more than the rest of the turn.
+    // Kept by hand: the loop ends with the siblings, and each child is handed the steps that are left; a `for` over the
+    // steps would count them up and hand on a difference.
     #[cycle(children)]
     fn write_children(&self, first: Child, steps: usize, out: &mut [u8]) -> Reached
         requires { first.place.level + steps < 2 ^ 64 }
@@ -294,6 +296,8 @@ impl Source<'_> {
 
     // Writes the pairs of a Map's children under the empty key, from the first child on along its siblings, behind
     // those of the others. `first` has the place of the Map.
+    // Kept beside `write_children`: one function for both would be called in two places, so that a record would cost two
+    // calls (DECISIONS, 'The writer').
     #[cycle(children)]
     fn write_empty(&self, first: Item, out: &mut [u8], from: Progress) -> Progress
         requires { first.place.level + first.left < 2 ^ 64 }
