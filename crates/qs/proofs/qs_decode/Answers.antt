@@ -4,28 +4,27 @@ use Prim.Native.Nat.{◌<◌, ◌^◌}
 use native.Mathlib.Omega.{arith}
 use mir.Syntax.{w64}
 use mir.Facts.{to_z_pos}
-use Rattle.decode.specs.Decoding.{answer_of}
-use Rattle.decode.proofs.Loops.{yes-fits}
+use Rattle.decode.proofs.Loops.{some-fits}
 use Rattle.qs.specs.Numbers.{length_or_no}
 use Rattle.qs.proofs.qs_decode.Goals as goal
 
 -- A slice is shorter than 2 ^ 63 bytes, and so is what fits it.
-small : (c : goal.In-Yes) → c.in-Yes.n < 2 ^ 63
-small c = omega (arith, c.well_formed.1.0.1, yes-fits c.args.raw.now c.args.out.now c.in-Yes.n (ap answer_of (sym c.in-Yes.is) ∙ c.decode.ensures.answer))
+small : (c : goal.In-Some) → c.in-Some.n < 2 ^ 63
+small c = omega (arith, c.well_formed.1.0.1, some-fits c.args.raw.now c.args.out.now c.in-Some.n (sym c.in-Some.is ∙ c.decode.ensures.answer))
 
 pub overflow_cast-result : goal.overflow_cast-result
 overflow_cast-result c = record { sfits = small c }
 
-pub returns-in-Yes : goal.returns-in-Yes
-returns-in-Yes c =
+pub returns-in-Some : goal.returns-in-Some
+returns-in-Some c =
     record {
-      answer = to_z_pos w64 (small c) ∙ ap length_or_no (ap answer_of (sym c.in-Yes.is) ∙ c.decode.ensures.answer);
+      answer = to_z_pos w64 (small c) ∙ ap length_or_no (sym c.in-Some.is ∙ c.decode.ensures.answer);
       output = c.decode.ensures.output;
     }
 
-pub returns-in-No : goal.returns-in-No
-returns-in-No c =
+pub returns-in-None : goal.returns-in-None
+returns-in-None c =
     record {
-      answer = ap length_or_no (ap answer_of (sym c.in-No.is) ∙ c.decode.ensures.answer);
+      answer = ap length_or_no (sym c.in-None.is ∙ c.decode.ensures.answer);
       output = c.decode.ensures.output;
     }

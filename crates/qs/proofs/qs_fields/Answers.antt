@@ -1,6 +1,0 @@
--- C's four numbers are made settings and behavior as the definitions have them, and the fields are read with these.
-use Rattle.qs.proofs.qs_fields.Goals as goal
-
-pub returns : goal.returns
-returns c =
-    rw (c.of_numbers-config.ensures, c.behavior-duplicates.ensures) at c.deserialize_fields.ensures
