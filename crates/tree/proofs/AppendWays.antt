@@ -31,7 +31,7 @@ use Rattle.tree.specs.declared.Here.{Here}
 use Rattle.reading.specs.declared.LeafKind.{LeafKind}
 use Rattle.reading.specs.declared.LeafKind.TheVariants.{Null, NoValue, String}
 use Rattle.tree.specs.Nodes.{value_words, record_of, below, rooted}
-use Rattle.tree.specs.NewValues.{new_value_words, appended_at}
+use Rattle.tree.specs.NewValues.{new_value_words}
 use Rattle.tree.specs.Laying.{lay_answer, laid}
 use Rattle.tree.specs.Stored.{Leads, put, used_by, among_of, StoredAt}
 use Rattle.tree.specs.Commands.{After, stood, stopped, Performs, along, appends, stays}
@@ -45,6 +45,13 @@ leaf_words : (kind : LeafKind) (raw : List ℕ) (o : ℕ) → value_words (value
 leaf_words Null raw o = refl
 leaf_words NoValue raw o = refl
 leaf_words String raw o = refl
+
+-- The answer where there were enough records, by that of laying the text: how the tree stands then, or a refusal.
+abbrev pub appended_at : Here → Option ℕ → ℕ → Result Here Refusal
+appended_at here (Some len) records =
+    Ok
+    (record { records = records; bytes = here.bytes + len; node = here.node; aids = aids_for here.aids records })
+appended_at here None records = Err TooLittleText
 
 -- An answer of `append` is one or the other.
 used-or-few : {A : Type 0} {u : ℕ} → Some u ≡ None → A

@@ -1,7 +1,7 @@
 -- Text laid behind what is used.
 use Rattle.std.specs.Prelude.{Option, Some, None}
+use mathlib.Core.Logic.{◌⊎◌, inl, inr}
 use mathlib.Core.Path.{◌≡◌, refl, ap, sym, ◌∙◌, subst}
-use mathlib.Core.Bool.{true, false}
 use mathlib.Core.List.{List, [], ◌++◌, append_assoc}
 use Prim.Native.Nat.{ℕ, ◌+◌, ◌<◌, ◌≤◌}
 use native.Mathlib.Omega.{arith}
@@ -10,10 +10,9 @@ use lib.ListN.{length, take, drop, length-append, length-drop, take-append-drop}
 use lib.Seq.{take_at, drop_at, length-take-le, drop-drop, take-append_seam}
 use borrow.Author.Tests.{le-leb, lt-leb}
 use Rattle.decode.specs.Decoding.{decoded, answer, written}
-use Rattle.laws.proofs.Cases.{true-false}
 use Rattle.key.specs.declared.KeyKind.{KeyKind}
 use Rattle.key.specs.declared.KeyKind.TheVariants.{None as NoKey, Int, String}
-use Rattle.records.specs.Keys.{meant_key, of_int}
+use Rattle.records.specs.Keys.{meant_key}
 use Rattle.reading.specs.Adding.{key_text}
 use Rattle.tree.specs.Laying.{lay_answer, laid, LiesBehind, lies, lacks}
 
@@ -111,17 +110,14 @@ module _ {text : List ℕ} (t free bytes : List ℕ) {filled : ℕ} (e : text �
   laid-full l = laid-fits text filled bytes l ∙ rw front (sym (append_assoc t bytes (drop (filled + length bytes) text)))
 
 -- By the kind of a key: an Int has no text, and another's is what the segment decodes to.
-pub int-text : (key : KeyKind) (raw : List ℕ) → of_int key ≡ true → key_text (meant_key key raw) ≡ []
+pub int-text : (i : ℕ) (raw : List ℕ) → key_text (meant_key (Int i) raw) ≡ []
 unfolding meant_key
-int-text NoKey raw e = true-false (sym e)
-int-text (Int i) raw e = refl
-int-text String raw e = true-false (sym e)
+int-text i raw = refl
 
-pub string-text : (key : KeyKind) (raw : List ℕ) → of_int key ≡ false → key_text (meant_key key raw) ≡ decoded raw
+pub string-text : (key : KeyKind) (raw : List ℕ) → (key ≡ NoKey) ⊎ (key ≡ String) → key_text (meant_key key raw) ≡ decoded raw
 unfolding meant_key
-string-text NoKey raw e = refl
-string-text (Int i) raw e = true-false e
-string-text String raw e = refl
+string-text key raw (inl e) = ap (λ (k : KeyKind). key_text (meant_key k raw)) e
+string-text key raw (inr e) = ap (λ (k : KeyKind). key_text (meant_key k raw)) e
 
 -- After laying, what was used stays, and the bytes stand behind it as the answer says.
 module _ (text : List ℕ) (used : ℕ) (bytes : List ℕ) (l : used ≤ length text) {text' : List ℕ} (f : text' ≡ laid text used bytes) where

@@ -1,9 +1,5 @@
 -- READING, 'Values': the words of a value that is added.
-use Rattle.std.specs.Prelude.{ℕ, ◌+◌, Option, Some, None, Result, Ok, Err}
-use Rattle.refusals.specs.declared.Refusal.TheVariants.{TooLittleText}
-use Rattle.refusals.specs.declared.Refusal.{Refusal}
-use Rattle.tree.specs.declared.Here.{Here}
-use Rattle.finding.specs.Aids.{aids_for}
+use Rattle.std.specs.Prelude.{ℕ}
 use Rattle.records.specs.declared.store.ValueWords.{ValueWords}
 use Rattle.row.specs.Row.{string_kind, null_kind, no_value_kind}
 use Rattle.indexed.specs.Adding.{childless}
@@ -15,10 +11,3 @@ abbrev pub new_value_words : LeafKind → ℕ → ℕ → ValueWords
 new_value_words Null offset len = childless null_kind
 new_value_words NoValue offset len = childless no_value_kind
 new_value_words String offset len = record { kind = string_kind; offset = offset; len = len }
-
--- The answer where there were enough records, by that of laying the text: how the tree stands then, or a refusal.
-abbrev pub appended_at : Here → Option ℕ → ℕ → Result Here Refusal
-appended_at here (Some len) records =
-    Ok
-    (record { records = records; bytes = here.bytes + len; node = here.node; aids = aids_for here.aids records })
-appended_at here None records = Err TooLittleText

@@ -1,8 +1,7 @@
 // A value added at a record.
 ghost use Rattle.std.specs.Prelude.{◌≡◌, ◌+◌, ◌<◌, ◌^◌, length};
-ghost use Rattle.decode.specs.Shown.{length_of};
 ghost use Rattle.reading.specs.Leaves.{leaf_of};
-ghost use Rattle.tree.specs.NewValues.{new_value_words, appended_at};
+ghost use Rattle.tree.specs.NewValues.{new_value_words};
 ghost use Rattle.tree.specs.Stored.{SomeStoredAt};
 ghost use Rattle.tree.specs.Commands.{Performs, appends, stays, Countable, AddsAtMost};
 
@@ -36,20 +35,6 @@ fn value_words(kind: LeafKind, offset: u32, len: u32) -> ValueWords
     }
 }
 
-// The answer where there were enough records: how the tree stands then, or that the text doesn't fit.
-fn answer(here: Here, laid: Option<usize>, records: u32) -> Result<Here, Refusal>
-    requires { here.bytes + length_of laid < 2 ^ 32 }
-    ensures { result ≡ appended_at here laid records }
-{
-    let len = laid.ok_or(Refusal::TooLittleText)?;
-    Ok(Here {
-        records,
-        bytes: here.bytes + len as u32,
-        aids: finding::aids_for(here.aids, records),
-        ..here
-    })
-}
-
 // Adds a value at the record, by the rule of Adding. The text comes first: where it doesn't fit, the rule runs all the
 // same, to tell whether the records are too few, which is the refusal then. After a refusal what the words and the
 // text hold is free.
@@ -69,5 +54,11 @@ pub fn append_value(
     let laid = laying::lay_value(kind, value, text, here.bytes as usize);
     let new = value_words(kind, here.bytes, laid.unwrap_or(0) as u32);
     let records = appending::add(words, text, here.among(), new).ok_or(Refusal::TooFewRecords)?;
-    answer(here, laid, records)
+    let len = laid.ok_or(Refusal::TooLittleText)?;
+    Ok(Here {
+        records,
+        bytes: here.bytes + len as u32,
+        aids: finding::aids_for(here.aids, records),
+        ..here
+    })
 }
