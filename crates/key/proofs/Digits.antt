@@ -1,25 +1,21 @@
--- The loop of `leading_int`: up to a byte all are digits whose value is an Int; and what the longest Int tells of a key.
+-- The loop of `leading_int`: up to a byte all are digits whose value is an Int; and that there is one longest Int.
 use mathlib.Core.Path.{◌≡◌, refl, sym, ap, ap₂, ◌∙◌}
-use mathlib.Core.Bool.{Bool, true, false, cond, not, ◌&&◌}
+use mathlib.Core.Bool.{Bool, true, false, not, ◌&&◌}
 use mathlib.Core.List.{List, [], ◌∷◌, ◌++◌}
 use Prim.Native.Nat.{ℕ, zero, suc, ◌+◌, ◌*◌, ◌-◌, ◌≤◌, ◌<◌}
 use native.Mathlib.Omega.{arith}
 use borrow.Author.Tests.{le-leb, lt-leb, leb-true, ltb-true, ltb-false, eq-eqb, ne_eqb}
 use lib.Dec.{eqb, leb, ltb}
 use lib.ListN.{length, take, drop, get_or}
-use lib.Seq.{take-add, take-length, length-take-le}
+use lib.Seq.{take-add, length-take-le}
 use Rattle.laws.proofs.Cases.{split, below, halves, true-false}
 use Rattle.laws.proofs.Lists.{drop_1}
 use Rattle.config.specs.declared.Config.{Config}
-use Rattle.decode.specs.Decoding.{decoded}
 use Rattle.ascii.specs.Digits.{is_digit, all_digits, value_from}
 use Rattle.ascii.proofs.Digits.{digits_join, value_join, value_grows, digit_is}
-use Rattle.key.specs.declared.KeyKind.{KeyKind}
-use Rattle.key.specs.declared.KeyKind.TheVariants.{None, Int, String}
 use Rattle.key.specs.declared.LeadingInt.{LeadingInt}
-use Rattle.key.specs.Keys.{int, str, max_int, needless_zero, is_padded, is_int}
-use Rattle.key.specs.Collected.{key, collected, key_in}
-use Rattle.key.specs.Leading.{LongestInt, OneLongest, Tells}
+use Rattle.key.specs.Keys.{max_int, needless_zero, is_padded, is_int}
+use Rattle.key.specs.Leading.{LongestInt, OneLongest}
 
 pub never : (b : Bool) → b && false ≡ false
 never true = refl
@@ -172,30 +168,6 @@ module _ {config : Config} {s : List ℕ} {i v : ℕ} (r : Summed config s i v) 
       let t = take (n - (i + 1)) (drop (i + 1) s) in
       let e = lt-leb (value_from (v * 10 + (get_or s i 0 - 48)) t) max_int (omega (arith, value_grows (v * 10 + (get_or s i 0 - 48)) t)) in
       rw (value_on n h k, e, never (all_digits (take n s))))
-
--- What it tells of the key of the first n bytes.
-module _ {config : Config} {s : List ℕ} {leading : LeadingInt} (r : LongestInt config s leading) (n : ℕ) where
-  some : (x : List ℕ) → (length x ≡ 0 → ⊥) → collected config x ≡ key (cond (is_int config x) (int (value_from 0 x)) (str (decoded x)))
-  some [] h = absurd (h refl)
-  some (b ∷ x) h = refl
-
-  pub tells_none : n ≡ 0 → Tells config s leading n None
-  tells_none e h k = rw e
-
-  pub tells_int : (n ≡ 0 → ⊥) → leading.len ≡ n → Tells config s leading n (Int leading.value)
-  tells_int z e h k =
-      let f : is_int config (take n s) ≡ true = rw e at r.int in
-      let g : value_from 0 (take n s) ≡ leading.value = rw e at r.value in
-      sym (some (take n s) (λ q. z (omega (arith, length-take-le n s k))) ∙ rw (f, g))
-
-  pub tells_string : (n ≡ 0 → ⊥) → (leading.len ≡ n → ⊥) → Tells config s leading n String
-  tells_string z e h k =
-      sym (some (take n s) (λ q. z (omega (arith, length-take-le n s k))) ∙ rw (r.longest n (omega arith) k))
-
--- And of all bytes.
-pub tells_all : {config : Config} {s : List ℕ} {leading : LeadingInt} (kind : KeyKind) → LongestInt config s leading
-    → ((config : Config) (x : List ℕ) → LongestInt config x leading → Tells config x leading (length s) kind) → key_in kind s ≡ collected config s
-tells_all {config} {s} kind l t = rw (take-length s) at (t config s l l.within (omega arith))
 
 -- Of two longest Ints neither is longer than the other.
 not_longer : {config : Config} {s : List ℕ} {x y : LeadingInt} → LongestInt config s x → LongestInt config s y → x.len < y.len → ⊥
