@@ -3,18 +3,15 @@ use mathlib.Core.Path.{◌≡◌, refl, sym, ap, ◌∙◌}
 use mathlib.Core.Bool.{cond}
 use mathlib.Core.List.{List, [], ◌∷◌, ◌++◌, append_assoc}
 use Prim.Native.Nat.{ℕ, zero, suc, ◌+◌, ◌-◌, ◌*◌, ◌/◌, ◌%◌, ◌≤◌, ◌<◌}
-use native.Mathlib.Nat.{mul_assoc, mul-le-mul_left, le-mul_of_pos_right}
+use native.Mathlib.Nat.{mul_assoc, mul-le-mul_left}
 use native.Mathlib.Numerals.{add-one}
 use native.Mathlib.Omega.{arith}
 use borrow.Author.Tests.{eq-eqb, ne_eqb}
 use lib.Dec.{eqb}
 use Rattle.laws.proofs.Cases.{below}
 use Rattle.output.specs.Numbers.{decimal}
-use Rattle.output.specs.Output.{page}
 use Rattle.output.proofs.Digits.{decimal_digit, decimal-more}
-use Rattle.writer.specs.Pages.{put}
 use Rattle.writer.specs.Runs.{digits_from}
-use Rattle.writer.proofs.Pages.{Putting}
 
 -- The digits before the last, of which a number below 10 has none.
 abbrev front : ℕ → List ℕ
@@ -47,16 +44,6 @@ turning_start n =
     }
 
 module _ {n rest back len : ℕ} (v : Turning n rest back len) where
-  bound_within : 0 < rest → v.bound ≤ n
-  bound_within h = omega (arith, le-mul_of_pos_right v.bound h, v.within)
-
-  -- While digits are to come, neither is more than the number.
-  pub back-within : 0 < rest → back ≤ n
-  back-within h = omega (arith, bound_within h, v.small)
-
-  pub len_within : 0 < rest → len ≤ n
-  len_within h = omega (arith, bound_within h, v.few)
-
   pub turning_more : 0 < rest → Turning n (rest / 10) (10 * back + rest % 10) (len + 1)
   unfolding digits_from
   turning_more h =
@@ -77,16 +64,7 @@ module _ {n rest back len : ℕ} (v : Turning n rest back len) where
         within = omega (arith, mul_assoc v.bound 10 (rest / 10), mul-le-mul_left v.bound tens, v.within);
       }
 
-  pub turning_done : rest ≤ 0 → digits_from len back ≡ decimal n
-  turning_done h = ap (λ x. x ++ digits_from len back) (sym (none h)) ∙ v.all
-    where
-      none : rest ≤ 0 → front rest ≡ []
-      none h = rw (eq-eqb rest 0 (omega arith))
-
 -- The digits of a number put from its lowest on.
-pub digits-start : {x whole : List ℕ} (out : List ℕ) (at : ℕ) → x ≡ whole → Putting x whole out out at at
-digits-start out at e = record { to_come = ap (put (page out at)) e; long = refl }
-
 pub digits_more : (len back : ℕ) → 0 < len → digits_from len back ≡ ((48 + back % 10) ∷ []) ++ digits_from (len - 1) (back / 10)
 unfolding digits_from
 digits_more zero back h = absurd (omega arith)

@@ -65,9 +65,6 @@ pub string_as_int : (config : Config) (s : List ℕ) {b : ℕ} {x : List ℕ} {r
 string_as_int config s h e t =
     let f : is_int config s ≡ true = sym e ∙ t in sym (rw f (rw h))
 
-pub string-plain : (config : Config) (s : List ℕ) {r : Bool} → r ≡ is_int config s → r ≡ false → escaped s ≡ escaped_key config (str s)
-string-plain config s e t = let f : is_int config s ≡ false = sym e ∙ t in sym (rw f)
-
 pub string-at_depth : (s : List ℕ) {b : ℕ} {x : List ℕ} → s ≡ b ∷ x → (b ∷ []) ++ escaped x ≡ escaped_at_depth (str s)
 string-at_depth s h = sym (rw h)
 

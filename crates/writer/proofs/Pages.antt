@@ -5,7 +5,7 @@ use mathlib.Core.List.{List, [], ◌∷◌, ◌++◌, append-nil, append_assoc}
 use Prim.Native.Nat.{ℕ, suc, ◌+◌, ◌-◌, ◌≤◌, ◌<◌}
 use native.Mathlib.Numerals.{add-one}
 use native.Mathlib.Omega.{arith}
-use borrow.Author.Tests.{ltb-true, ltb-false, lt-ltb, le-ltb, le-leb, lt-leb, eq-eqb, ne_eqb}
+use borrow.Author.Tests.{ltb-true, ltb-false, lt-ltb, le-ltb, le-leb, lt-leb, eq-eqb}
 use lib.Dec.{ltb, eqb}
 use lib.ListN.{length, take, drop, get_or, get_or-eq_default, set, length-set, length-drop, take-append-drop, drop_of_length-le, get_or-append}
 use Rattle.std.specs.List.{copy_within}
@@ -58,16 +58,10 @@ puts-same {p} e f = record { puts = e.puts ∙ ap (put p) f }
 pub puts-no_separator : (out : List ℕ) (at : ℕ) → at ≡ 0 → Puts (cond (eqb at 0) [] (ampersand ∷ [])) (page out at) (page out at)
 puts-no_separator out at e = puts-same (puts_nothing (page out at)) (sym (rw (eq-eqb at 0 e)))
 
-pub puts_separator : {p p₁ : Page} (at : ℕ) → (at ≡ 0 → ⊥) → Puts (ampersand ∷ []) p p₁ → Puts (cond (eqb at 0) [] (ampersand ∷ [])) p p₁
-puts_separator at e f = puts-same f (sym (rw (ne_eqb at 0 e)))
-
 -- The invariant of a loop that puts bytes: what is still to come, from here, gives the whole.
 pub record Putting (rest whole out₀ out : List ℕ) (at₀ at : ℕ) : Type 0 where
   pub to_come : put (page out at) rest ≡ put (page out₀ at₀) whole
   pub long : length out ≡ length out₀
-
-pub putting_start : (whole out : List ℕ) (at : ℕ) → Putting whole whole out out at at
-putting_start whole out at = record { to_come = refl; long = refl }
 
 pub putting_more : {x rest later whole out₀ out out₁ : List ℕ} {at₀ at at₁ : ℕ}
     → Putting rest whole out₀ out at₀ at → rest ≡ x ++ later → Puts x (page out at) (page out₁ at₁) → length out₁ ≡ length out

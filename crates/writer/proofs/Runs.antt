@@ -17,7 +17,7 @@ use Rattle.output.specs.Output.{Page, page}
 use Rattle.ser.specs.Escaping.{is_reserved, escaped_byte, escaped}
 use Rattle.writer.specs.Pages.{put, Puts}
 use Rattle.writer.specs.Runs.{any_of, any_reserved, count_reserved, plain_byte, advanced, has_room, has_room_again, Room}
-use Rattle.writer.proofs.Pages.{byte_put, put-past, put-from, puts-same, Putting, putting_start, putting_more, putting_done}
+use Rattle.writer.proofs.Pages.{byte_put, put-past, put-from, puts-same, Putting, putting_more, putting_done}
 use Rattle.writer.proofs.Escapes.{puts-escape, puts_reserved, escaped-more, escaped-done}
 
 -- The place behind so many bytes more, by the limit.
@@ -65,9 +65,6 @@ room {len} {at} out told t =
 
 -- Room for bytes once more: they stand before the place, and there is room for so many.
 module _ (start end : ℕ) {at : ℕ} {r : Bool} (out : List ℕ) (told : r ≡ has_room_again start end (length out) at) (t : r ≡ true) where
-  pub again-before : end ≤ at
-  again-before = leb-true end at (halves (leb end at) (has_room (end - start) (length out) at) (sym told ∙ t)).0
-
   pub again-room : Room (end - start) out at
   again-room = room out refl (halves (leb end at) (has_room (end - start) (length out) at) (sym told ∙ t)).1
 
@@ -182,10 +179,6 @@ count_bound (b ∷ s) = regroup (cond (is_reserved b) 1 0) (count_reserved s) (l
     regroup : (x k n : ℕ) → x ≤ 1 → k ≤ n → x + k ≤ suc n
     regroup x k n p q = omega arith
 
--- Bytes stored from a place on, where there is room.
-pub putting_begin : (whole out : List ℕ) (at : ℕ) → Putting whole whole out out at (at + 0)
-putting_begin whole out at = let e : at + 0 ≡ at = omega arith in rw e (putting_start whole out at)
-
 -- One byte more, at the place i further on.
 stored_more : {b : ℕ} {rest later whole out₀ out : List ℕ} {at : ℕ} (i : ℕ) → Putting rest whole out₀ out at (at + i) → rest ≡ b ∷ later → at + i ≤ max_len
     → Putting later whole out₀ (set out (at + i) b) at (at + (i + 1))
@@ -226,16 +219,6 @@ module _ (b : ℕ) {r : Bool} {out : List ℕ} {at : ℕ} (told : r ≡ is_reser
 pub record Laying (bytes out₀ out : List ℕ) (at next i : ℕ) : Type 0 where
   pub putting : Putting (escaped (drop i bytes)) (escaped bytes) out₀ out at next
   pub free : Room (3 * (length bytes - i)) out next
-
-pub laying_start : {bytes out : List ℕ} {at : ℕ} → Room (3 * length bytes) out at → Laying bytes out out at at 0
-laying_start {bytes} {out} {at} r =
-    record {
-      putting = putting_start (escaped bytes) out at;
-      free = record { fits = omega (arith, r.fits); within = omega (arith, r.within) };
-    }
-
-pub laying_room : {bytes out₀ out : List ℕ} {at next i : ℕ} → Laying bytes out₀ out at next i → i < length bytes → Room 3 out next
-laying_room v h = record { fits = omega (arith, v.free.fits); within = omega (arith, v.free.within) }
 
 pub laying_more : {bytes out₀ out out₁ : List ℕ} {at next next₁ i : ℕ} → Laying bytes out₀ out at next i → i < length bytes
     → Puts (escaped_byte (get_or bytes i 0)) (page out next) (page out₁ next₁) → length out₁ ≡ length out → Laying bytes out₀ out₁ at next₁ (i + 1)

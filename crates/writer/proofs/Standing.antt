@@ -1,6 +1,6 @@
 -- Keys that stand in what is written: how they stay there, are copied, opened for the next pair, and made longer.
 use mathlib.Core.Path.{◌≡◌, refl, sym, ap, ◌∙◌}
-use mathlib.Core.Bool.{Bool, true, false, cond}
+use mathlib.Core.Bool.{Bool, false, cond}
 use mathlib.Core.List.{List, [], ◌∷◌, ◌++◌, append-nil, append_assoc}
 use Prim.Native.Nat.{ℕ, suc, ◌+◌, ◌-◌, ◌≤◌, ◌<◌}
 use native.Mathlib.Omega.{arith}
@@ -48,14 +48,6 @@ pub record Copying (start end : ℕ) (out₀ out : List ℕ) (at next i : ℕ) :
   pub copied : (lent s key : List ℕ) → Holds lent s (page out₀ at) → StandsIn s key start end → Holds lent (s ++ take (i - start) key) (page out next)
   pub from : start ≤ i
   pub long : length out ≡ length out₀
-
-pub copying_start : (start end : ℕ) (out : List ℕ) (at : ℕ) → Copying start end out out at at start
-copying_start start end out at =
-    record {
-      copied = λ lent s key h f. let e : start - start ≡ 0 = omega arith in holds_same h (sym (rw e (append-nil s)));
-      from = omega arith;
-      long = refl;
-    }
 
 pub copying_more : {start end : ℕ} {out₀ out out₁ : List ℕ} {at next next₁ i b : ℕ} → Copying start end out₀ out at next i → i < end
     → b ≡ get_or out i 0 → Puts (b ∷ []) (page out next) (page out₁ next₁) → length out₁ ≡ length out → Copying start end out₀ out₁ at next₁ (i + 1)
@@ -115,18 +107,6 @@ opened-more (b ∷ s) key x = append_assoc (b ∷ s) (ampersand ∷ key) x
 
 -- A key that is fresh is open; another is opened by '&' and a copy.
 module _ {place : Place} {p : Progress} where
-  pub opens_fresh : (out : List ℕ) → p.fresh ≡ true → Opens place place out out p
-  opens_fresh out t =
-      record {
-        opens = λ lent s key r.
-            let e : begun p.fresh s key ≡ opened s key = ap (λ f. begun f s key) t in
-            record {
-              page = rw (sym (r.ends t)) (holds_same r.page e);
-              stands = stands_same r.stands e;
-            };
-        position = λ key. refl;
-      }
-
   pub opens-stale : {out out₁ out₂ : List ℕ} {start end : ℕ} → p.fresh ≡ false
       → Puts (cond (eqb p.at 0) [] (ampersand ∷ [])) (page out p.at) (page out₁ start)
       → Copies place.start place.end (page out₁ start) (page out₂ end)

@@ -28,7 +28,7 @@ use Rattle.writer.specs.Filled.{Filled, FilledAll}
 use Rattle.writer.specs.Walking.{taken_by, keyed_by, child_at, child_pairs, children_pairs, behind_key, opened, StandsIn, position_of, Opened}
 use Rattle.writer.specs.Walking.{begun, Ready, Opens, Moves, Writes, Follows, WritesChildren, WritesTaken}
 use Rattle.writer.specs.Walking.{AllTaken, inner_part, inner_at, place_under_empty}
-use Rattle.writer.proofs.Pages.{puts_nothing, puts_then, puts-same, holds_then, holds_same}
+use Rattle.writer.proofs.Pages.{puts_then, puts-same, holds_then, holds_same}
 use Rattle.writer.proofs.Standing.{opened_longer, opened-more, stands_same}
 use Rattle.writer.proofs.Pairings.{SomePairs, begins-stands, joined_one, joined-none, joined-append, joined-begins, start-joined, filled-some}
 use Rattle.writer.proofs.Pairings.{child-start, children-more, children-none}
@@ -56,9 +56,6 @@ pub moves_sequence : {out out₁ : List ℕ} {end : ℕ} (place : Place)
     → Puts (cond place.repeats [] (opening ∷ closing ∷ [])) (page out place.end) (page out₁ end)
     → Moves in_sequence place (record { start = place.start; end = end; level = place.level + 1; repeats = place.repeats }) out out₁
 moves_sequence place f = record { opens = λ lent s key o. opened_longer o f; position = λ key. refl }
-
-pub no_brackets : (place : Place) (p : Page) → place.repeats ≡ true → Puts (cond place.repeats [] (opening ∷ closing ∷ [])) p p
-no_brackets place p t = puts-same (puts_nothing p) (sym (rw t))
 
 pub brackets : (place : Place) {p p₁ p₂ : Page} → place.repeats ≡ false → Puts (opening ∷ []) p p₁ → Puts (closing ∷ []) p₁ p₂
     → Puts (cond place.repeats [] (opening ∷ closing ∷ [])) p p₂
@@ -347,15 +344,6 @@ pub record Going (part : Part) (config : Config) (place : Place) (whole rest : F
   pub long : length out ≡ length out₀
   pub fewer : left ≤ left₀
 
-pub going_start : (part : Part) (config : Config) (place : Place) (whole : Forest) (out : List ℕ) (p : Progress) (left : ℕ)
-    → Going part config place whole whole out out p p left left
-going_start part config place whole out p left =
-    record {
-      going = λ lent s key r d. record { done = []; all = refl; ready = ready-same r (sym (joined-none s)); stale = λ t. (t, refl); filled = d };
-      long = refl;
-      fewer = omega arith;
-    }
-
 pub going_turn : {part : Part} {config : Config} {place : Place} {whole : Forest} {out₀ out out₁ : List ℕ} {p₀ p p₁ : Progress} {left₀ left m : ℕ}
     (words text : List ℕ) (n : ℕ)
     → Going part config place whole (forest_within left (keyed_by part) words text n) out₀ out p₀ p left₀ left → (left ≡ 0 → ⊥) → (n ≡ 0 → ⊥)
@@ -407,9 +395,6 @@ going_done {part} {config} {place} {whole} {rest} v e =
 pub record Skipping (part : Part) (whole rest : Forest) (skipped : ℕ) : Type 0 where
   pub all : skipped ≡ 0 → AllTaken part rest → AllTaken part whole
   pub elements : part ≡ Element → skipped ≡ 0
-
-pub skipping_start : (part : Part) (whole : Forest) → Skipping part whole whole 0
-skipping_start part whole = record { all = λ e h. h; elements = λ e. refl }
 
 pub skipping_taken : {part : Part} {whole : Forest} {left m skipped : ℕ} {r : Bool} (words text : List ℕ) (n : ℕ)
     → Skipping part whole (forest_within left (keyed_by part) words text n) skipped → (left ≡ 0 → ⊥) → (n ≡ 0 → ⊥)

@@ -6,17 +6,11 @@ use Rattle.reading.specs.Buffers.{row_in}
 use Rattle.writer.specs.Walking.{keyed_by}
 use Rattle.writer.proofs.Turns.{writes-none, writes-single, writes_inner, writes_inner_empty, writes_skipped, writes-taken}
 use Rattle.writer.proofs.Turns.{moves_empty, open_level, enter-level, empty_level, inner_level}
-use Rattle.writer.proofs.Turns.{forest-end, forest-out, going_start, going_turn, going_done}
-use Rattle.writer.proofs.Turns.{skipping_start, skipping_taken, skipping_skipped, taken-done}
+use Rattle.writer.proofs.Turns.{forest-end, forest-out, going_turn, going_done}
+use Rattle.writer.proofs.Turns.{skipping_taken, skipping_skipped, taken-done}
 use Rattle.writer.proofs.Source.+children.Goals as goal
 use Rattle.writer.proofs.Source.+children.Goals.{write_value-in_default-via-in-Ok+in_default, write_value-in_default-via-in_default}
 use Rattle.std.proofs.Common.{rules}
-
-pub write_children-loop-n-init : goal.write_children-loop-n-init
-write_children-loop-n-init t c = (going_start _ _ _ _ _ _ _, skipping_start _ _)
-
-pub write_children-shape_of-out-then-left-eq0 : goal.write_children-shape_of-out-then-left-eq0
-write_children-shape_of-out-then-left-eq0 t c = c.loop-n.invariant.0.long
 
 pub write_children-returns-then-left-eq0 : goal.write_children-returns-then-left-eq0
 write_children-returns-then-left-eq0 t c =
@@ -58,20 +52,11 @@ write_children-loop-n-preserved t c =
           c.word-n-in-loop-n.ensures,
     )
 
-pub write_children-shape_of-out : goal.write_children-shape_of-out
-write_children-shape_of-out t c = c.loop-n.invariant.0.long
-
 pub write_children-returns : goal.write_children-returns
 write_children-returns t c =
     let s = c.args in
     taken-done c.loop-n.invariant.0 c.loop-n.invariant.1
     (forest-end s.self.now.lent.words.now s.self.now.lent.text.now c.loop-n.left c.loop-n.n (keyed_by s.first.part) c.loop-n-test.false)
-
-pub write_empty-loop-n-init : goal.write_empty-loop-n-init
-write_empty-loop-n-init t c = going_start _ _ _ _ _ _ _
-
-pub write_empty-shape_of-out-then-left-eq0 : goal.write_empty-shape_of-out-then-left-eq0
-write_empty-shape_of-out-then-left-eq0 t c = c.loop-n.invariant.long
 
 pub write_empty-returns-then-left-eq0 : goal.write_empty-returns-then-left-eq0
 write_empty-returns-then-left-eq0 t c =
@@ -108,20 +93,10 @@ write_empty-loop-n-preserved t c =
     (writes-taken c.takes.ensures c.if-not-takes.false c.«open».ensures (moves_empty _ _ c.enter_empty-place.ensures)
     c.write_value-at.ensures) (c.write_value-at.auto.out ∙ c.«open».auto.out) c.word-n-in-loop-n.ensures
 
-pub write_empty-shape_of-out : goal.write_empty-shape_of-out
-write_empty-shape_of-out t c = c.loop-n.invariant.long
-
 pub write_empty-returns : goal.write_empty-returns
 write_empty-returns t c =
     let s = c.args in
     going_done c.loop-n.invariant (forest-end s.self.now.lent.words.now s.self.now.lent.text.now c.loop-n.left c.loop-n.n true c.loop-n-test.false)
-
-pub write_inner-overflow_sub-left : goal.write_inner-overflow_sub-left
-write_inner-overflow_sub-left t c = omega (arith, c.requires.0)
-
-pub write_inner-inner_place-place-requires : goal.write_inner-inner_place-place-requires
-write_inner-inner_place-place-requires t c =
-    omega (arith, c.requires.0, c.requires.1)
 
 pub write_inner-write_children-next-requires : goal.write_inner-write_children-next-requires
 write_inner-write_children-next-requires t c = (

@@ -3,11 +3,8 @@ use native.Mathlib.Omega.{arith}
 use lib.ListN.{length}
 use Rattle.writer.proofs.Pages.{putting_done}
 use Rattle.writer.proofs.Escapes.{escaped-done}
-use Rattle.writer.proofs.Runs.{putting_begin, laid_more}
+use Rattle.writer.proofs.Runs.{laid_more}
 use Rattle.writer.proofs.bytes.lay.Goals as goal
-
-pub loop-i-init : goal.loop-i-init
-loop-i-init c = putting_begin _ _ _
 
 pub loop-i-preserved : goal.loop-i-preserved
 loop-i-preserved c =

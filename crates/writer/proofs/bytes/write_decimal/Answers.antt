@@ -1,15 +1,9 @@
-use mathlib.Core.Path.{◌≡◌, ap, ◌∙◌}
+use mathlib.Core.Path.{◌≡◌}
 use Prim.Native.Nat.{◌+◌, ◌-◌}
-use Rattle.writer.specs.Runs.{digits_from}
 use native.Mathlib.Omega.{arith}
 use Rattle.writer.proofs.Pages.{putting_more, putting_done}
-use Rattle.writer.proofs.Digits.{digits-start, digits_more, digits-done}
+use Rattle.writer.proofs.Digits.{digits_more, digits-done}
 use Rattle.writer.proofs.bytes.write_decimal.Goals as goal
-
-pub loop-written-init : goal.loop-written-init
-loop-written-init c =
-    let e : c.turned-back.result.len - 0 ≡ c.turned-back.result.len = omega arith in
-    digits-start _ _ (ap (λ k. digits_from k c.turned-back.result.back) e ∙ c.turned-back.ensures)
 
 pub loop-written-preserved : goal.loop-written-preserved
 loop-written-preserved c =

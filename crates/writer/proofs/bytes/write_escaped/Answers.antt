@@ -7,8 +7,5 @@ loop-byte-preserved c =
     putting_more c.loop-byte.invariant (escaped-more _ _ c.loop-byte-test.true) c.write_escaped_byte-next.ensures
     c.write_escaped_byte-next.auto.out
 
-pub shape_of-out : goal.shape_of-out
-shape_of-out c = c.loop-byte.invariant.long
-
 pub returns : goal.returns
 returns c = putting_done c.loop-byte.invariant (escaped-done _ _ c.loop-byte-test.false)

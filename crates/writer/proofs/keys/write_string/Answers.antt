@@ -1,6 +1,6 @@
 -- Nothing of no bytes; else the first byte as an escape and the rest escaped, or all escaped.
 use Rattle.writer.proofs.Pages.{puts_nothing, puts_then, puts-same}
-use Rattle.writer.proofs.Escapes.{no-string, string_as_int, string-plain}
+use Rattle.writer.proofs.Escapes.{no-string, string_as_int}
 use Rattle.writer.proofs.keys.write_string.Goals as goal
 
 pub returns-in_default : goal.returns-in_default
@@ -10,6 +10,3 @@ pub returns-then-is_int : goal.returns-then-is_int
 returns-then-is_int c =
     puts-same (puts_then c.write_escape-rest.ensures c.write_escaped.ensures)
     (string_as_int c.args.config c.args.bytes.now c.in-Some.ensures.cases.0 c.is_int.ensures c.if-is_int.true)
-
-pub returns : goal.returns
-returns c = puts-same c.write_text.ensures (string-plain c.args.config c.args.bytes.now c.is_int.ensures c.if-is_int.false)
