@@ -78,7 +78,8 @@ pub fn ends_scan(until: Until, symbol: Symbol) -> bool
     stops_at(stops_of(until), symbol)
 }
 
-// Takes until a symbol that ends the scan, which is taken too. The segment's start stays.
+// Takes until a symbol that ends the scan, which is taken too. The segment's start stays. Kept by hand: an iterator
+// of takings would hold input, settings and cursor, and hand its cursor back at the end, which is no plainer.
 pub fn take_until(input: &[u8], config: Config, until: Until, cursor: Cursor) -> Taken
     requires { cursor.place ≤ length input.now }
     ensures { Scanned until config input.now cursor result }

@@ -3,7 +3,8 @@ ghost use Rattle.std.specs.Prelude.{◌≡◌};
 ghost use Rattle.decode.specs.Hex.{digit_of, hex_value};
 ghost use Rattle.decode.specs.Laying.{Escapes};
 
-// The values of all bytes as hex digits, and 16 for those that are none.
+// The values of all bytes as hex digits, and 16 for those that are none. Kept by hand: of Options the table would be
+// written one entry a line, which is no plainer; `hex_value` alone reads it.
 static HEX_VALUES: [u8; 256] = [
     16, 16, 16, 16, 16, 16, 16, 16, 16, 16, 16, 16, 16, 16, 16, 16, 16, 16, 16, 16, 16, 16, 16, 16,
     16, 16, 16, 16, 16, 16, 16, 16, 16, 16, 16, 16, 16, 16, 16, 16, 16, 16, 16, 16, 16, 16, 16, 16,

@@ -16,6 +16,7 @@ fn put(out: &mut [u8], n: usize, bytes: &[u8])
 }
 
 // Writes the decoded bytes, which fit, in one pass and answers their number. Further bytes of `out` stay as they were.
+// Kept by hand: a turn takes one to three raw bytes, which no iterator over bytes does.
 fn lay(raw: &[u8], out: &mut [u8]) -> usize
     requires { length (decoded raw.now) ≤ length out.old }
     ensures length { result ≡ length (decoded raw.now) }

@@ -12,6 +12,7 @@ ghost use Rattle.key.specs.Leading.{LongestInt, Tells};
 use config::Config;
 
 // The kind of key that a segment is (READING, 'Keys'): none, an Int of a value, or a String, its bytes decoded.
+// Kept by hand: the empty key is a kind of `key_in`, and an Option of the others would make each match two.
 #[derive(Clone, Copy)]
 pub enum KeyKind {
     None,
@@ -19,7 +20,8 @@ pub enum KeyKind {
     String,
 }
 
-// The longest Int that bytes begin with: how many digits it has, and its value. Of none both are 0.
+// The longest Int that bytes begin with: how many digits it has, and its value. Of none both are 0. Kept by hand:
+// `LongestInt` has no digits as a longest Int of length 0, so an Option would tell nothing more.
 #[derive(Clone, Copy)]
 pub struct LeadingInt {
     pub len: usize,

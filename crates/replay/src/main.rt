@@ -25,7 +25,8 @@ fn agrees(case: Case, query: &[u8], left: &[u8], words: &mut [u32], text: &mut [
     compare::as_stored(case, answer, left, words, text)
 }
 
-// The same for the reading of what stands behind the bytes in front.
+// The same for the reading of what stands behind the bytes in front. Kept beside `agrees`: that both `parse` and
+// `parse_at` are called is what is tested.
 fn agrees_behind(
     case: Case,
     input: &[u8],

@@ -50,7 +50,8 @@ fn print_shown<W: Write>(to: &mut W, raw: &[u8], out: &mut [u8]) -> io::Result<(
     to.write_all(b"\n")
 }
 
-// Prints the text shown of each line. What earlier lines left in `out` stays there.
+// Prints the text shown of each line. What earlier lines left in `out` stays there. Kept by hand: `split` has an empty
+// line behind the last newline, which is none here (`lines_of`).
 fn print_lines<W: Write>(to: &mut W, input: &[u8], out: &mut [u8]) -> io::Result<()>
     ensures { OnOk result (Appends (W.contents to.old) (W.contents to.new)
         (shown_lines (length out.old) (lines_of input.now))) }

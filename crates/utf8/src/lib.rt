@@ -16,7 +16,8 @@ struct Due {
 }
 
 impl Due {
-    // A byte is needed and its range is empty, so that it stays needed whatever comes.
+    // A byte is needed and its range is empty, so that it stays needed whatever comes. Kept by hand: it is a state of
+    // the automaton of specs/Test, and as an Option the loop would test it beside the range, which is no plainer.
     const REFUSED: Due = Due {
         needed: 1,
         lower: 1,
@@ -84,7 +85,8 @@ impl Due {
     }
 }
 
-// Whether the bytes are UTF-8. It reads them and changes nothing.
+// Whether the bytes are UTF-8. It reads them and changes nothing. Kept by hand: std's `from_utf8` promises std's
+// definition, and what is promised here is the RFC's grammar (`TestDecides`).
 pub fn is_utf8(bytes: &[u8]) -> bool
     ensures value { result ≡ utf8 bytes.now }
     ensures decides { Decides result bytes.now }
