@@ -1,12 +1,11 @@
 -- A key looked for with the aids: where a walk may start, and that what is asked stays true of words that are kept.
-use mathlib.Core.Path.{◌≡◌, refl, ap, sym, ◌∙◌, subst}
+use mathlib.Core.Path.{◌≡◌, refl, ap, sym, ◌∙◌}
 use mathlib.Core.List.{List, []}
 use Prim.Native.Nat.{ℕ, ◌<◌}
 use native.Mathlib.Omega.{arith}
 use Rattle.key.specs.KeyOrder.{compare_keys}
 use Rattle.row.specs.Row.{kind_word, child_word, next_word, map_kind}
 use Rattle.row.specs.Words.{record_count, word}
-use Rattle.std.specs.Prelude.{Option, Some}
 use Rattle.std.specs.declared.cmp.Ordering.{Ordering}
 use Rattle.std.specs.declared.cmp.Ordering.TheVariants.{Less, Equal}
 use Rattle.tags.specs.Tags.{ordering_of, leading, string_tag, Sought}
@@ -15,9 +14,9 @@ use Rattle.aids.specs.Kept.{free_from, Kept}
 use Rattle.key.specs.Keys.{Key, str}
 use Rattle.records.specs.Records.{key_words_at}
 use Rattle.records.specs.Keys.{key_at, InText}
-use Rattle.records.specs.Siblings.{Position, found, children, standing, position, WellFormed, Linked, Walking}
+use Rattle.records.specs.Siblings.{found, children, standing, position, WellFormed, Linked, Walking}
 use Rattle.finding.specs.Aids.{ChildOf, InOrder, Ready}
-use Rattle.finding.specs.Finding.{tagged_key, Asked, Tells}
+use Rattle.finding.specs.Finding.{tagged_key, Asked}
 use Rattle.records.proofs.Chains.{children-end}
 use Rattle.records.proofs.Held.{well-formed}
 use Rattle.finding.proofs.Keeping.{word_kept, position-kept, some-kept, leafy-kept, sorted-kept, aided-kept}
@@ -49,9 +48,6 @@ module _ {ws text : List ℕ} {among : Among} {tag : ℕ} {name : List ℕ} (a :
         map = word_kept k among.used (omega (arith, a.ready.aided.below)) among.parent _ a.inside (omega arith) ∙ a.map;
         tagged = a.tagged;
       }
-
-  pub asked_record : among.parent < record_count ws
-  asked_record = omega (arith, a.inside, (ready-linked a.ready).room)
 
   pub asked-position : {ws' : List ℕ} → Kept (free_from among.aids) ws ws' → (k : Key)
       → position ws' text k among.parent ≡ position ws text k among.parent
@@ -89,13 +85,6 @@ module _ {ws text : List ℕ} {among : Among} {tag : ℕ} {name : List ℕ} (a :
 
       pub asked-equal : o ≡ Equal → Walked 0 c
       asked-equal f = walking_at (ready-linked a.ready) a.inside p text _ in_order (ready-formed a.ready) (stands ∙ ap ordering_of f)
-
--- A try that tells a position.
-pub tell : (p : Position) (t : Option Position) (q : Position) → Tells p t → t ≡ Some q → q ≡ p
-tell p t q h e = subst (λ (s : Option Position). Tells p s) e h
-
-pub tell_on : (t : Option Position) {p q : Position} → p ≡ q → Tells p t → Tells q t
-tell_on t e h = subst (λ (s : Position). Tells s t) e h
 
 -- The empty key.
 pub empty_key_lem : tagged_key string_tag [] ≡ str []

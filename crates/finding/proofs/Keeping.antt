@@ -13,7 +13,7 @@ use Rattle.aids.proofs.Keeps.{kept_at}
 use Rattle.records.specs.declared.store.Record.{Record}
 use Rattle.records.specs.Records.{record_at}
 use Rattle.records.specs.Keys.{stored_key, key_at, InText}
-use Rattle.records.specs.Siblings.{chain, children, standing, seek, position, Within, Linked, WellFormed}
+use Rattle.records.specs.Siblings.{chain, children, standing, seek, position, Within, Linked}
 use Rattle.records.specs.Holds.{Holds, HoldsSome}
 use Rattle.records.specs.Nodes.{Nodes}
 use Rattle.finding.specs.Aids.{parent_index, ChildOf, Aided, InOrder, Leafy, Sorted}
@@ -88,9 +88,6 @@ module _ {m : ℕ} {ws ws' : List ℕ} (k : Kept m ws ws') (used : ℕ) (l : use
 
     pub child-kept : (n c : ℕ) → n < used → ChildOf ws n c → ChildOf ws' n c
     child-kept n c i p = record { before = p.before; behind = p.behind; splits = children-kept n i ∙ p.splits }
-
-  pub well_formed-kept : (text : List ℕ) → WellFormed ws text used → WellFormed ws' text used
-  well_formed-kept text h = record { links = linked-kept h.links; keys = λ n i. keys_kept text n i (h.keys n i) }
 
   pub holds_kept : {text : List ℕ} {f : Nodes} → Holds ws text used f → Holds ws' text used f
   holds_kept {text} {f} h =

@@ -86,9 +86,6 @@ module _ {ws : List ℕ} {used : ℕ} (l : Linked ws used) {n c : ℕ} (i : n < 
   reached : Reached ws used c p.behind
   reached = reach ws used c p.behind p.before (word ws n child_word) (children-end l n i) p.splits
 
-  pub child-no-root : c ≢ 0
-  child-no-root = reached.no-root
-
   pub child-used : c < used
   child-used = reached.is-used
 

@@ -6,7 +6,7 @@ use mathlib.Core.Bool.{Bool, true, false}
 use mathlib.Core.List.{List, []}
 use Prim.Native.Nat.{ℕ, ◌+◌, ◌*◌, ◌≤◌, ◌<◌, ◌^◌}
 use native.Mathlib.Omega.{arith}
-use borrow.Author.Tests.{le-leb, lt-leb, leb-true}
+use borrow.Author.Tests.{le-leb, lt-leb}
 use lib.Dec.{leb}
 use lib.ListN.{length}
 use Rattle.row.specs.Row.{record_width, sequence_kind}
@@ -40,14 +40,6 @@ no_aids_lem aids count e = go (leb count aids) refl
     go : (b : Bool) → leb count aids ≡ b → aids_for aids count ≡ no_aids
     go true q = rw q e
     go false q = rw q
-
--- Those used are below them.
-pub aids_above : (aids count : ℕ) → count ≤ no_aids → count ≤ aids_for aids count
-aids_above aids count l = go (leb count aids) refl
-  where
-    go : (b : Bool) → leb count aids ≡ b → count ≤ aids_for aids count
-    go true q = rw q (leb-true count aids q)
-    go false q = rw q l
 
 pub inserted-length : (ws : List ℕ) (u n prev next : ℕ) (r : Record) → length (inserted ws u n prev next r) ≡ length ws
 inserted-length ws u n prev next r = length-linked (with_record ws u r next) n prev u ∙ length_with_words ws u (record_fields r next)

@@ -109,9 +109,6 @@ module _ {ws text : List ℕ} {used : ℕ} (h : HoldsSome ws text used) {n : ℕ
     valued : Holds (with_value ws n v) text used (plug spot.around (node n (revalued spot.entry v) spot.below spot.behind))
     valued = value-holds n spot.entry spot.below spot.behind spot.around holds-here v
 
-    pub some_valued : HoldsSome (with_value ws n v) text used
-    some_valued = record { forest = _; holds = valued }
-
     pub aided_valued : {aids : ℕ} → Aided ws used aids → Aided (with_value ws n v) used aids
     aided_valued {aids} a =
         aided-more holds-here valued

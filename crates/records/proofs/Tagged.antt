@@ -2,7 +2,6 @@
 use mathlib.Core.Path.{◌≡◌, refl, sym, ap, ◌∙◌}
 use mathlib.Core.Logic.{◌≢◌}
 use mathlib.Core.List.{List}
-use Prim.Native.Nat.{Ordering}
 use Prim.Native.Nat.{ℕ, ◌+◌, ◌*◌, ◌/◌, ◌≤◌, ◌<◌, compare}
 use native.Mathlib.Omega.{arith}
 use borrow.Author.Tests.{eqb-true, eqb-false}
@@ -11,21 +10,16 @@ use mir.Val.{Fits}
 use lib.Dec.{eqb}
 use lib.ListN.{length, take, drop, get_or, length-take, length-drop}
 use Rattle.laws.proofs.Cases.{split}
-use Rattle.key.specs.Keys.{Key, int, str}
+use Rattle.key.specs.Keys.{Key}
 use Rattle.key.specs.KeyOrder.{compare_keys}
 use Rattle.tags.specs.Tags.{head_of, AreBytes, string_tag, tag_of, text_of, IntFits, Sought}
 use Rattle.tags.proofs.Heads.{bytes_take, bytes_drop}
-use Rattle.tags.proofs.KeyTags.{tags_differ, tags_int, tags_short}
+use Rattle.tags.proofs.KeyTags.{tags_differ, tags_short}
 use Rattle.row.specs.Row.{record_width, key_kind_word, key_word, key_len_word, int_key_kind}
 use Rattle.row.specs.Words.{word}
 use Rattle.records.specs.Records.{key_words_at}
 use Rattle.records.specs.Keys.{key_at, InText}
 use Rattle.records.proofs.Comparing.{int-key, string-key}
-
--- A key whose tag is a String's is the String of its bytes.
-pub tagged-string : {tag : ℕ} {name : List ℕ} → string_tag ≤ tag → (k : Key) → Sought k tag name → str name ≡ k
-tagged-string l (int i) s = absurd (omega (arith, s.tag_is, s.int-fits))
-tagged-string l (str x) s = ap str s.name-is
 
 module _ (ws text : List ℕ) (n : ℕ) where
   -- A record is looked at by the kind of its key.
@@ -43,11 +37,6 @@ module _ (ws text : List ℕ) (n : ℕ) where
     pub string_tag_lem : {len head : ℕ} → kind ≢ int_key_kind → len ≡ word ws n key_len_word → head ≡ head_of (take len (drop start text))
         → string_tag + head / 2 ≡ tag_of (key_at ws text n)
     string_tag_lem h q r = rw (r, q, p) (ap tag_of (sym (string-key ws text n e h)))
-
-  -- Equal tags below a String's are those of equal Ints.
-  pub tagged-int : {t tag : ℕ} {name : List ℕ} → t ≡ tag_of (key_at ws text n) → t ≡ tag → tag < string_tag → (k : Key) → Sought k tag name
-      → Ordering.eq ≡ compare_keys (key_at ws text n) k
-  tagged-int e d l k s = sym (tags_int (key_at ws text n) k (sym e ∙ d ∙ s.tag_is) (rw s.tag_is at l))
 
   -- Words and bytes are bounded.
   module _ (fit : (i : ℕ) → Fits w32 (get_or ws i 0)) where

@@ -24,12 +24,6 @@ by_number x y {o} f g h = go (compared x y)
 pub heads_less : (a b : List ℕ) → AreBytes a → AreBytes b → head_of a < head_of b → compare_bytes a b ≡ Ordering.lt
 heads_less a b = leading_less 8 a b
 
-pub heads-greater : (a b : List ℕ) → AreBytes a → AreBytes b → head_of b < head_of a → compare_bytes a b ≡ Ordering.gt
-heads-greater a b g h l = keys_turned (str b) (str a) ∙ ap opposite (heads_less b a h g l)
-
-pub heads_differ : (a b : List ℕ) → AreBytes a → AreBytes b → head_of a ≢ head_of b → compare (head_of a) (head_of b) ≡ compare_bytes a b
-heads_differ a b g h = by_number (head_of a) (head_of b) (heads_less a b g h) (heads-greater a b g h)
-
 pub heads-lengths : (a b : List ℕ) → AreBytes a → AreBytes b → head_of a ≡ head_of b → length a < 8 → length b < 8
     → compare_bytes a b ≡ compare (length a) (length b)
 heads-lengths a b g h e k l = leading-lengths 8 a b g h e (omega arith) (omega arith)
@@ -53,12 +47,6 @@ tags_greater a b g h f l = keys_turned b a ∙ ap opposite (tags_less b a h g f 
 pub tags_differ : (a b : Key) → AreBytes (text_of a) → AreBytes (text_of b) → IntFits a → IntFits b → tag_of a ≢ tag_of b
     → compare (tag_of a) (tag_of b) ≡ compare_keys a b
 tags_differ a b g h e f = by_number (tag_of a) (tag_of b) (tags_less a b g h f) (tags_greater a b g h e)
-
-pub tags_int : (a b : Key) → tag_of a ≡ tag_of b → tag_of b < string_tag → compare_keys a b ≡ Ordering.eq
-tags_int (int i) (int j) e l = compare_equal i j (omega arith) (omega arith)
-tags_int (int i) (str y) e l = absurd (omega arith)
-tags_int (str x) (int j) e l = absurd (omega arith)
-tags_int (str x) (str y) e l = absurd (omega arith)
 
 pub tags_short : (a b : Key) → AreBytes (text_of a) → AreBytes (text_of b) → IntFits a → IntFits b → tag_of a ≡ tag_of b → string_tag ≤ tag_of b
     → length (text_of a) < 8 → length (text_of b) < 8 → compare_keys a b ≡ compare (length (text_of a)) (length (text_of b))

@@ -1,7 +1,7 @@
 -- The rest of the walk that starts at the finger has the position, in words of which those below the free ones are kept.
 use Rattle.aids.proofs.Keeps.{kept_trans}
 use mathlib.Core.Path.{◌∙◌}
-use Rattle.finding.proofs.Finds.{asked-kept, asked-position, tell}
+use Rattle.finding.proofs.Finds.{asked-kept, asked-position}
 use Rattle.finding.proofs.find_by_fingers.Goals as goal
 
 pub walk_from-walk-requires : goal.walk_from-walk-requires
@@ -11,7 +11,7 @@ walk_from-walk-requires c =
 pub returns-in-Some : goal.returns-in-Some
 returns-in-Some c =
     record {
-      position = tell _ _ _ c.walk_some.ensures c.in-Some.is ∙ c.walk_from-walk.ensures.so_far ∙ asked-position
+      position = c.in-Some.ensures ∙ c.walk_from-walk.ensures.so_far ∙ asked-position
           c.requires.asked c.propose-proposed.ensures _;
       kept = c.propose-proposed.ensures;
     }
