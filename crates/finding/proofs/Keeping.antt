@@ -58,14 +58,6 @@ module _ {m : ℕ} {ws ws' : List ℕ} (k : Kept m ws ws') (used : ℕ) (l : use
     children-kept n i =
         rw (count_kept, word_kept n child_word i (omega arith)) (chain-kept (record_count ws) (word ws n child_word) (children-end h n i).within)
 
-    pub linked-kept : Linked ws' used
-    linked-kept =
-        record {
-          room = omega (arith, count_kept, h.room);
-          rising = λ n i. rw (children-kept n i) (h.rising n i);
-          ends = λ n i. rw (children-kept n i, count_kept) (h.ends n i);
-        }
-
     pub position-kept : (text : List ℕ) (key : Key) (n : ℕ) → n < used → position ws' text key n ≡ position ws text key n
     position-kept text key n i =
         rw (children-kept n i)

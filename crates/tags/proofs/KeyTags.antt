@@ -7,7 +7,7 @@ use native.Mathlib.Omega.{arith}
 use lib.ListN.{length, drop_of_length-le}
 use Rattle.key.specs.Keys.{Key, int, str}
 use Rattle.key.specs.KeyOrder.{compare_bytes, compare_keys}
-use Rattle.key.proofs.KeyOrders.{Compared, less, equal, more, compared, compare_less, compare_equal, opposite, keys_turned}
+use Rattle.key.proofs.KeyOrders.{Compared, less, equal, more, compared, compare_less, opposite, keys_turned}
 use Rattle.tags.specs.Tags.{leading, head_of, AreBytes, string_tag, tag_of, text_of, IntFits}
 use Rattle.tags.proofs.Heads.{leading_less, leading_split, leading-lengths, leading-nil}
 
