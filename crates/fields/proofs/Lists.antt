@@ -20,7 +20,7 @@ use Rattle.std.specs.Prelude.{Result, Ok, Err}
 use Rattle.std.specs.List.{list_all}
 use Rattle.fields.specs.declared.text.Text.{Text}
 use Rattle.fields.specs.Lists.{Listed, no_elements, prepend}
-use Rattle.fields.specs.OnRecords.{single_text_at, int_keys_at, element_at, in_turn_at, elements_at, one_at, list_at, field_list_at, Writes, wrote, stopped}
+use Rattle.fields.specs.OnRecords.{single_text_at, int_keys_at, element_at, in_turn_at, elements_at, one_at, field_list_at, Writes, wrote, stopped}
 
 -- What `has_int_keys` tests of every child.
 pub int_keys-all : (ws ms : List ℕ) → list_all (λ m. eqb (word ws m key_kind_word) int_key_kind) ms ≡ int_keys_at ws ms
@@ -102,9 +102,6 @@ module _ {d : DuplicateKeyBehavior} {ws text : List ℕ} {whole : Result Listed 
     pub next_fits : i + 1 < record_count ws
     next_fits = omega (arith, few-here)
 
-    pub element-fits : 2 * i + 1 < length l
-    element-fits = omega (arith, turning_long, room-here)
-
     pub turning_more : {t : Text} → Ok t ≡ element_at d ws text i m
         → Turning d ws text whole size (i + 1) ms (set (set l (2 * i) t.offset) (2 * i + 1) t.len)
     turning_more {t} f =
@@ -164,10 +161,7 @@ module _ (d : DuplicateKeyBehavior) (ws text : List ℕ) (n size : ℕ) {l : Lis
   unfolding elements_at
   children-read h w = rw (le-ltb size (2 * length (children ws n)) h) w
 
--- The list of the field, in a slice that was cleared.
-pub zero-list : (l₀ : List ℕ) {l : List ℕ} → l ≡ replicate (length l₀) 0 → l ≡ replicate (length l) 0
-zero-list l₀ {l} e = e ∙ ap (λ (k : ℕ). replicate k 0) (sym (ap length e ∙ length-replicate (length l₀) 0))
-
+-- No elements, and a refusal before any.
 module _ {l : List ℕ} {whole : Result Listed Refusal} where
   pub none_written : l ≡ replicate (length l) 0 → whole ≡ Ok no_elements → Writes (length l) l whole (Ok 0)
   none_written z e =
@@ -177,11 +171,7 @@ module _ {l : List ℕ} {whole : Result Listed Refusal} where
   pub turned_away : {x : Refusal} → whole ≡ Err x → Writes (length l) l whole (Err x)
   turned_away e = rw e (stopped refl)
 
+-- No field, in a slice that was cleared.
 module _ (d : DuplicateKeyBehavior) (ws text l₀ : List ℕ) {l₁ : List ℕ} {f : Result ℕ Refusal} (z : l₁ ≡ replicate (length l₀) 0) where
-  pub field_found : {n : ℕ} {l : List ℕ} {r : Result ℕ Refusal} → f ≡ Ok n → Writes (length l₁) l (list_at d ws text (length l₁) n) r
-      → Writes (length l₀) l (field_list_at d ws text (length l₀) f) r
-  field_found {n} {l} {r} e h =
-      rw e (subst (λ (k : ℕ). Writes k l (list_at d ws text k n) r) (ap length z ∙ length-replicate (length l₀) 0) h)
-
   pub field_none : {x : Refusal} → f ≡ Err x → Writes (length l₀) l₁ (field_list_at d ws text (length l₀) f) (Err x)
   field_none e = rw e (stopped (ap length z ∙ length-replicate (length l₀) 0))
