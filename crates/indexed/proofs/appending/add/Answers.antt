@@ -3,9 +3,6 @@ use Rattle.std.proofs.lemmas.Bool.{false≢true}
 use Rattle.indexed.proofs.Added.{append_other}
 use Rattle.indexed.proofs.appending.add.Goals as goal
 
-pub append-requires : goal.append-requires
-append-requires c = (c.requires.ready, (c.requires.inside.0, c.requires.inside.1))
-
 pub returns-then-not-is_map : goal.returns-then-not-is_map
 returns-then-not-is_map c =
     append_other c.requires.ready c.requires.inside.0 c.args.value

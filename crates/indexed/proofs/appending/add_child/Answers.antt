@@ -1,20 +1,7 @@
 -- By whether a record is left.
-use Rattle.std.proofs.Common.{arith}
 use Rattle.indexed.specs.Adding.{child_added}
-use Rattle.indexed.proofs.Added.{room, with_room, no_room}
+use Rattle.indexed.proofs.Added.{with_room, no_room}
 use Rattle.indexed.proofs.appending.add_child.Goals as goal
-
-pub insert_child-requires : goal.insert_child-requires
-insert_child-requires c =
-    record {
-      held = (c.requires.ready.holds, c.requires.ready.aided, c.requires.inside.2);
-      inside = (
-        c.requires.inside.0,
-        omega (arith, room c.args.words.now _ c.has_room.ensures c.if-not-has_room.false),
-        c.requires.inside.1,
-        λ no-int. omega arith,
-      );
-    }
 
 pub returns-then-not-has_room : goal.returns-then-not-has_room
 unfolding child_added

@@ -3,7 +3,7 @@ use native.Mathlib.Omega.{arith}
 use Rattle.indexed.specs.Adding.{paired}
 use Rattle.indexed.proofs.Added.{room, with_room, no_room}
 use Rattle.finding.proofs.Finds.{ready-linked}
-use Rattle.indexed.proofs.Grows.{two_length, grown_two}
+use Rattle.indexed.proofs.Grows.{grown_two}
 use Rattle.indexed.proofs.appending.pair.Goals as goal
 
 pub make_sequence-requires : goal.make_sequence-requires
@@ -13,17 +13,6 @@ make_sequence-requires c = (
       (arith, room c.args.words.now _ c.has_room.ensures c.if-not-has_room.false),
   c.requires.growable.countable,
 )
-
-pub note_two-requires : goal.note_two-requires
-note_two-requires c =
-    record {
-      room = λ on. rw (
-        c.make_sequence.ensures,
-        two_length c.args.words.now c.args.among.used
-            c.args.among.parent c.args.value,
-      ) (c.requires.growable.ready.aided.room on);
-      countable = c.requires.growable.countable;
-    }
 
 pub returns : goal.returns
 unfolding paired

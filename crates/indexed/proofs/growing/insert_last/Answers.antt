@@ -6,7 +6,7 @@ use Rattle.records.specs.Records.{inserted}
 use Rattle.records.proofs.Chains.{last-inside}
 use Rattle.finding.proofs.Shortcuts.{gap_last}
 use Rattle.finding.proofs.Finds.{ready-linked}
-use Rattle.indexed.proofs.Grows.{inserted-length, grown_noted}
+use Rattle.indexed.proofs.Grows.{grown_noted}
 use Rattle.indexed.proofs.growing.insert_last.Goals as goal
 
 pub last_child-prev-requires : goal.last_child-prev-requires
@@ -19,15 +19,6 @@ insert-requires c = (
   rw c.last_child-prev.ensures
       (omega (arith, last-inside (ready-linked c.requires.growable.ready) _ c.requires.growable.inside, (ready-linked c.requires.growable.ready).room)),
 )
-
-pub note_last-requires : goal.note_last-requires
-note_last-requires c =
-    λ on. rw (
-      c.insert.ensures,
-      inserted-length c.args.words.now c.args.among.used c.args.among.parent
-          c.last_child-prev.result 0 c.args.new,
-    )
-    (c.requires.growable.ready.aided.room on)
 
 pub returns : goal.returns
 returns c =
