@@ -3,7 +3,7 @@ use mathlib.Core.Path.{◌≡◌, refl, sym, ◌∙◌}
 use mathlib.Core.Logic.{◌≢◌}
 use mathlib.Core.Bool.{Bool, true, false}
 use mathlib.Core.List.{List, []}
-use Prim.Native.Nat.{ℕ, zero, suc, ◌+◌, ◌-◌, ◌≤◌, ◌<◌}
+use Prim.Native.Nat.{ℕ, zero, suc, ◌-◌, ◌≤◌, ◌<◌}
 use native.Mathlib.Omega.{arith}
 use borrow.Author.Tests.{eq-eqb, ne_eqb, leb-true}
 use lib.Dec.{leb}
@@ -13,14 +13,13 @@ use Rattle.row.specs.Words.{record_count, word}
 use Rattle.aids.specs.Kept.{free_from, Kept}
 use Rattle.std.specs.Prelude.{Option, Some, None}
 use Rattle.records.specs.declared.store.ValueWords.{ValueWords}
-use Rattle.records.specs.declared.store.Record.{Record}
-use Rattle.records.specs.Records.{value_at, with_value, inserted}
+use Rattle.records.specs.Records.{with_value}
 use Rattle.records.specs.Siblings.{children, standing, Position, position, found, between}
 use Rattle.aids.specs.declared.Among.{Among}
 use Rattle.aids.proofs.Keeps.{kept_refl, kept_trans}
 use Rattle.finding.specs.Aids.{IsGap, Ready, Grown}
-use Rattle.indexed.specs.Adding.{Leaves, enough, few, Appends, if_room, unkeyed, childless}
-use Rattle.indexed.specs.Adding.{sequence_of_two, pushed, paired, appended_here, child_added, appended}
+use Rattle.indexed.specs.Adding.{Leaves, enough, few, Appends, if_room}
+use Rattle.indexed.specs.Adding.{pushed, paired, appended_here, child_added, appended}
 use Rattle.records.proofs.Chains.{found_within}
 use Rattle.finding.proofs.Keeping.{word_kept, position-kept}
 use Rattle.finding.proofs.Shortcuts.{gap_position}
@@ -36,13 +35,6 @@ module _ (ws : List ℕ) (count : ℕ) {b : Bool} (e : b ≡ leb count (record_c
 
   pub no_room : (ws1 : List ℕ) {ws' : List ℕ} {aids : ℕ} → b ≡ false → Leaves (if_room ws count ws1) aids ws' None
   no_room ws1 t = rw (sym e ∙ t) (few refl)
-
--- The calls that insert.
-module _ (ws : List ℕ) (used n : ℕ) (v : ValueWords) {ws' : List ℕ} where
-  pub two_inserted : (w1 w2 : List ℕ) (old : ValueWords) (r q : Record) → old ≡ value_at ws n → w1 ≡ with_value ws n (childless sequence_kind)
-      → r ≡ unkeyed old → w2 ≡ inserted w1 used n 0 0 r → q ≡ unkeyed v → ws' ≡ inserted w2 (used + 1) n used 0 q
-      → ws' ≡ sequence_of_two ws used n v
-  two_inserted w1 w2 old r q a b c d e f = cc
 
 -- By the kind of the record.
 module _ (ws : List ℕ) (used n : ℕ) (v : ValueWords) {kind : ℕ} (e : kind ≡ word ws n kind_word) where

@@ -1,26 +1,23 @@
 -- A record put in, of which the aids know then or there are none: the words are as they were to be but behind the aids,
 -- and the aids are right.
-use mathlib.Core.Path.{◌≡◌, refl, sym, ◌∙◌, subst}
-use mathlib.Core.Logic.{◌≢◌}
-use mathlib.Core.Bool.{Bool, true, false}
+use mathlib.Core.Path.{◌≡◌, sym, ◌∙◌, subst}
 use mathlib.Core.List.{List, []}
 use Prim.Native.Nat.{ℕ, ◌+◌, ◌*◌, ◌≤◌, ◌<◌, ◌^◌}
 use native.Mathlib.Omega.{arith}
-use borrow.Author.Tests.{le-leb, lt-leb}
-use lib.Dec.{leb}
+use borrow.Author.Tests.{le-leb}
 use lib.ListN.{length}
-use Rattle.row.specs.Row.{record_width, sequence_kind}
+use Rattle.row.specs.Row.{record_width}
 use Rattle.row.specs.Words.{record_count}
 use Rattle.aids.specs.declared.Among.{Among}
-use Rattle.aids.specs.Kept.{free_from, no_aids, Kept}
+use Rattle.aids.specs.Kept.{no_aids, Kept}
 use Rattle.aids.proofs.Keeps.{kept_refl, kept_trans, kept_less, kept_set}
 use Rattle.records.specs.declared.store.ValueWords.{ValueWords}
 use Rattle.records.specs.declared.store.Record.{Record}
-use Rattle.records.specs.Records.{value_fields, record_fields, with_value, with_record, inserted}
+use Rattle.records.specs.Records.{record_fields, with_value, with_record, inserted}
 use Rattle.records.specs.Keys.{InText}
 use Rattle.records.specs.Siblings.{children}
 use Rattle.records.specs.Holds.{HoldsSome}
-use Rattle.indexed.specs.Adding.{childless, sequence_of_two}
+use Rattle.indexed.specs.Adding.{sequence_of_two}
 use Rattle.finding.specs.Aids.{IsGap, Aided, aids_for, Grown, Noted, NotedTwo}
 use Rattle.records.proofs.Rows.{length-linked, length_with_words}
 use Rattle.records.proofs.Held.{well-formed}
@@ -31,22 +28,8 @@ use Rattle.indexed.proofs.Knowing.{aided-none, aided_valued, some-inserted-known
 pub aids_stay : (aids count : ℕ) → count ≤ aids → aids_for aids count ≡ aids
 aids_stay aids count l = rw (le-leb count aids l)
 
-pub aids_end : (aids count : ℕ) → aids < count → aids_for aids count ≡ no_aids
-aids_end aids count l = rw (lt-leb count aids l)
-
-pub no_aids_lem : (aids count : ℕ) → aids ≡ no_aids → aids_for aids count ≡ no_aids
-no_aids_lem aids count e = go (leb count aids) refl
-  where
-    go : (b : Bool) → leb count aids ≡ b → aids_for aids count ≡ no_aids
-    go true q = rw q e
-    go false q = rw q
-
 pub inserted-length : (ws : List ℕ) (u n prev next : ℕ) (r : Record) → length (inserted ws u n prev next r) ≡ length ws
 inserted-length ws u n prev next r = length-linked (with_record ws u r next) n prev u ∙ length_with_words ws u (record_fields r next)
-
-pub two_length : (ws : List ℕ) (u n : ℕ) (v : ValueWords) → length (sequence_of_two ws u n v) ≡ length ws
-two_length ws u n v =
-    inserted-length _ (u + 1) n u 0 _ ∙ inserted-length _ u n 0 0 _ ∙ length_with_words ws n (value_fields (childless sequence_kind))
 
 -- By what the aids are then.
 module _ {ws ws' : List ℕ} {aids count : ℕ} where
@@ -92,7 +75,3 @@ module _ {ws text : List ℕ} {among : Among} (h : HoldsSome ws text among.used)
       (aided-kept k (well-formed (some-paired-known h i none v among.aids (omega arith) r).holds).links
       (aided-paired h i none v on (omega arith) a))
   grown_two none v r c (NotedTwo.unknown e q) = grown_unknown (omega arith) e q
-
--- The root alone has no parent.
-pub aided-root : (ws : List ℕ) (aids : ℕ) → 0 < aids → (aids ≢ no_aids → free_from aids ≤ length ws) → Aided ws 1 aids
-aided-root ws aids l r = record { below = l; room = r; known = λ on c a b. absurd (omega arith) }
