@@ -1,6 +1,7 @@
 // A search by halving.
 ghost use Rattle.std.specs.Prelude.{ℕ, ◌≤◌, ◌<◌};
 
+// Kept a loop: what is searched is no slice, which `partition_point` asks for.
 // The last of some places of which it holds, or the first, where it holds of none behind one of which it doesn't.
 pub(crate) fn last_held<F: Fn(u32) -> bool>(count: u32, holds: F) -> u32
     requires { (n : ℕ) → n < count → F.pre holds n }

@@ -14,9 +14,11 @@ mod layout; // where the aids stand
 mod order; // the order of the blocks
 pub mod slots; // the child that was touched last
 
-// The number that stands for no aids.
+// The number that stands for no aids. Kept a number: `Among` goes by value through each call of the hot path, where an
+// Option is a word more, and as the greatest it needs no case of its own in `used ≤ aids`.
 pub const NO_AIDS: u32 = 4294967295;
 
+// The tag and the name of a key stay apart beside it: half of the functions that take a tag take no name.
 // The record among whose children a key is looked for, how many records are used, and how many stand below the aids.
 #[derive(Clone, Copy)]
 pub struct Among {

@@ -35,7 +35,8 @@ pub(crate) fn block(words: &[u32], aids: u32, entry: u32) -> usize
     )
 }
 
-// Whether an entry stands at a tag of the parent or before it.
+// Whether an entry stands at a tag of the parent or before it. Kept by hand, not as two tuples compared: no branch
+// depends on it, since where a search goes is hard to foretell.
 fn is_not_above(words: &[u32], among: Among, entry: u32, tag: u64) -> bool {
     let at = layout::entry_at(among.aids, entry);
     let parent = free::read(words, at + layout::PARENT);

@@ -45,7 +45,8 @@ pub fn start(words: &mut [u32]) -> u32
     }
 }
 
-// Has the aids know the record that follows those used, a child of a Map, after its key was looked for.
+// Has the aids know the record that follows those used, a child of a Map, after its key was looked for. The three that
+// note are kept apart: they differ in what they have the aids know and in what is asked for it.
 fn note_child(words: &mut [u32], text: &[u8], among: Among)
     requires room { (among.aids ≢ no_aids → free_from among.aids ≤ length words.old) }
     requires inside { (among.used < record_count words.old) × InText text.now (key_words_at words.old among.used) }

@@ -112,6 +112,7 @@ pub fn place<F: Fn(u32) -> Ordering>(siblings: Siblings, prev: u32, compare: F) 
     }
 }
 
+// Kept with a flag: an enum of the three would be made at the one call that hands in a raw segment, to be matched again.
 // The position of a key among the children of a record. Beside a String key stand its bytes, which are to be decoded
 // on the way where they are escaped.
 pub fn find(
