@@ -20,7 +20,6 @@ use Rattle.reading.specs.declared.Used.{Used}
 use Rattle.reading.specs.declared.Refused.{Refused}
 use Rattle.reading.specs.Results.{answer_of}
 use Rattle.parse.specs.Outcomes.{outcome_of}
-use Rattle.output.specs.declared.Written.{Written}
 use Rattle.head.specs.declared.Head.{Head}
 use Rattle.listing.specs.Bounded.{bounded_listing, outcome_from}
 use Rattle.output.specs.Output.{answer_for, filled}
@@ -33,7 +32,7 @@ use Rattle.head.proofs.Heads.{Inside, head_inside}
 use Rattle.list.specs.Lending.{lent_records, lent_bytes, LentSlices, counted, WroteAll}
 
 -- Bytes that fit are written whole, and counted.
-module _ (bytes out out' : List ℕ) {told : Written} {r : ℕ} (answered : told ≡ answer_for bytes out) (output : out' ≡ filled bytes out)
+module _ (bytes out out' : List ℕ) {told : Option ℕ} {r : ℕ} (answered : told ≡ answer_for bytes out) (output : out' ≡ filled bytes out)
     (count : r ≡ counted told) where
   pub written : length bytes ≤ length out → WroteAll bytes out out' r
   written h =
@@ -70,7 +69,7 @@ module _ (config : Config) (input words text out : List ℕ) (lent : LentSlices 
 
   pub listing-written : (words' text' : List ℕ) (parsed : Result Used Refused) {answer : Reading}
       → outcome_of parsed words' text' ≡ reading config input words text → answer ≡ answer_of parsed → ((i : ℕ) → get_or words' i 0 < 2 ^ 32)
-      → (out' : List ℕ) {told : Written} {r : ℕ} → told ≡ answer_for (bounded_listing (outcome_from answer words' text')) out
+      → (out' : List ℕ) {told : Option ℕ} {r : ℕ} → told ≡ answer_for (bounded_listing (outcome_from answer words' text')) out
       → out' ≡ filled (bounded_listing (outcome_from answer words' text')) out → r ≡ counted told
       → WroteAll (listing (reading config input words text)) out out' r
   listing-written words' text' parsed {answer = answer} read is u32s out' {r = r} answered output count =

@@ -1,8 +1,6 @@
 -- What the listing program reads and lends, and what stands in its output. The code has the same numbers as constants.
-use Rattle.std.specs.Prelude.{ℕ, ◌+◌, ◌*◌, ◌≡◌, List, ◌++◌, length, drop}
+use Rattle.std.specs.Prelude.{ℕ, ◌+◌, ◌*◌, ◌≡◌, List, ◌++◌, length, drop, Option, unwrap_or}
 use Rattle.row.specs.Row.{record_width}
-use Rattle.output.specs.declared.Written.{Written}
-use Rattle.output.specs.declared.Written.TheVariants.{Whole, Cut}
 
 -- How many records and bytes of text the program lends (READING, 'The listing').
 abbrev pub lent_records : ℕ
@@ -35,9 +33,8 @@ pub record LentSlices (words text out : List ℕ) : Type 0 where
   pub output : length out ≡ output_bytes
 
 -- How many bytes to print. What the program writes is never cut.
-abbrev pub counted : Written → ℕ
-counted (Whole n) = n
-counted Cut = 0
+abbrev pub counted : Option ℕ → ℕ
+counted told = unwrap_or told 0
 
 -- These bytes were written from the output's start on, none was cut, all after them is as it was, and their number is
 -- told.

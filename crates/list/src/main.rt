@@ -9,10 +9,9 @@ ghost use Rattle.std.specs.Io.KnownBytes.{Appends};
 ghost use Rattle.reading.specs.Reading.{reading};
 ghost use Rattle.listing.specs.Listing.{listing};
 ghost use Rattle.list.specs.Reply.{reply};
-ghost use Rattle.list.specs.Lending.{read_bytes, LentSlices, counted, WroteAll};
+ghost use Rattle.list.specs.Lending.{read_bytes, LentSlices, WroteAll};
 
 use config::Config;
-use output::Written;
 use reading::Reading;
 use std::io;
 use std::io::{Read, Write};
@@ -27,16 +26,6 @@ const LENT_BYTES: usize = 65535;
 
 // How many bytes its output has.
 const OUTPUT_BYTES: usize = 262144;
-
-// The number of bytes to print. What the program writes is never cut: callers show that.
-fn count(written: Written) -> usize
-    ensures { result ≡ counted written }
-{
-    match written {
-        Written::Whole(n) => n,
-        Written::Cut => 0,
-    }
-}
 
 // Reads a query string into words and text, and writes the listing of the outcome. The rest of the output stays as it
 // was.
@@ -53,7 +42,8 @@ fn respond_to(
         out.old out.new result }
 {
     let answer = Reading::from(parse::parse(query, config, words, text));
-    count(listing::list(answer, words, text, out))
+    // The output is never cut: the contract says so.
+    listing::list(answer, words, text, out).unwrap_or(0)
 }
 
 // Writes what the program prints for an input. The rest of the output stays as it was.
@@ -63,7 +53,7 @@ fn respond(input: &[u8], words: &mut [u32], text: &mut [u8], out: &mut [u8]) -> 
         out.old out.new result }
 {
     match head::parse_head(input) {
-        None => count(listing::list_bad_head(out)),
+        None => listing::list_bad_head(out).unwrap_or(0),
         Some(head) => {
             respond_to(
                 &input[head.start..],

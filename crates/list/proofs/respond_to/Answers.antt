@@ -6,4 +6,4 @@ use Rattle.list.proofs.respond_to.Goals as goal
 pub returns : goal.returns
 returns c =
     listing-written c.args.config _ _ _ _ c.requires _ _ c.parse.result c.parse.ensures c.from-answer.ensures
-    (search rules) _ c.list.ensures.told c.list.ensures.output c.count.ensures
+    (search rules) _ c.list.ensures.told c.list.ensures.output c.unwrap_or.ensures
