@@ -1,12 +1,11 @@
--- Lists from an index on, parts of a slice lent and given back, and the loop that clears a slice.
+-- Lists from an index on, parts of a slice lent and given back, and zeros.
 use mathlib.Core.Path.{◌≡◌, refl, ap, ◌∙◌}
 use mathlib.Core.List.{List, ◌∷◌, ◌++◌, append-nil}
 use Prim.Native.Nat.{ℕ, zero, suc, ◌+◌, ◌-◌, ◌≤◌, ◌<◌}
 use native.Mathlib.Numerals.{add-one}
 use native.Mathlib.Omega.{arith}
-use lib.ListN.{length, take, drop, get_or, set, replicate, length-drop, drop_of_length-le, length-set}
+use lib.ListN.{length, take, drop, get_or, replicate, length-drop, drop_of_length-le}
 use lib.Seq.{drop-cons, take_all}
-use borrow.Author.Fill.{fill_more}
 use borrow.Rule.Slice.PartMut.{put_mid, mid_of}
 
 -- A list from i on, by its first element.
@@ -38,25 +37,3 @@ pub zeros : (n i : ℕ) → get_or {A = ℕ} (replicate n 0) i 0 ≡ 0
 zeros zero i = refl
 zeros (suc n) zero = refl
 zeros (suc n) (suc i) = zeros n i
-
--- The invariant of a loop that clears a slice: zeros so far, and the rest as it was.
-pub record Clearing (l₀ l : List ℕ) (i : ℕ) : Type 0 where
-  pub within : i ≤ length l₀
-  pub so_far : l ≡ replicate i 0 ++ drop i l₀
-  pub long : length l ≡ length l₀
-
-pub clearing_start : (l : List ℕ) → Clearing l l 0
-clearing_start l = record { within = omega arith; so_far = refl; long = refl }
-
-pub clearing_more : {l₀ l : List ℕ} {i : ℕ} → Clearing l₀ l i → i < length l → Clearing l₀ (set l i 0) (i + 1)
-clearing_more {l₀} {l} {i} v h =
-    record {
-      within = omega (arith, v.long);
-      so_far = rw v.so_far (fill_more i 0 l₀ (omega (arith, v.long)));
-      long = simp length-set v.long;
-    }
-
-pub clearing_done : {l₀ l : List ℕ} {i : ℕ} → Clearing l₀ l i → length l ≤ i → l ≡ replicate (length l₀) 0
-clearing_done {l₀} {l} {i} v h =
-    let e : i ≡ length l₀ = omega (arith, v.long, v.within) in
-    v.so_far ∙ rw (e, drop_of_length-le l₀ {i = length l₀} (omega arith), append-nil)
