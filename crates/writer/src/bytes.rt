@@ -247,7 +247,8 @@ fn lay_again(start: usize, len: usize, out: &mut [u8], at: usize) -> usize
     ensures { Puts (take len (drop start out.old))
         (page out.old at) (page out.new result) }
 {
-    out.copy_within(start..start + len, at);
+    let (written, free) = out.split_at_mut(at);
+    free[..len].copy_from_slice(&written[start..start + len]);
     at + len
 }
 
