@@ -5,6 +5,7 @@ ghost use Rattle.aids.specs.Kept.{free_from, Kept};
 use crate::{free, halving, keys, layout};
 
 // How many fingers a block has.
+// Stays a clause, that b leaves room for a block: a struct for one number would be made anew at each call.
 pub(crate) fn count(words: &[u32], b: usize) -> u32
     requires { b + 97 < 2 ^ 64 }
     ensures { result ≤ 32 }

@@ -24,6 +24,7 @@ impl From<u32> for Way {
 }
 
 // The word of no child: it was not walked far.
+// Stays a number: it is a word of the lent slice (fixed memory), which `far` reads as an Option.
 const NOWHERE: u32 = 4294967295;
 
 // Of the children along a long walk, one in so many gets a finger.
@@ -234,6 +235,7 @@ fn add_in_turn(words: &mut [u32], text: &[u8], among: Among, child: u32, turn: u
 }
 
 // Puts in fingers along a walk that was long, from one child on up to another.
+// Stays a walk by hand: the words may be any, so no list is known to end, and an iterator would lend what is written.
 fn add_along(words: &mut [u32], text: &[u8], among: Among, first: u32, to: u32)
     ensures { Kept (free_from among.aids) words.old words.new }
 {

@@ -23,6 +23,7 @@ pub(crate) struct Part {
     pub end: usize,
 }
 
+// Stays without an Option: a key that is no String of the text counts as the empty one, and each caller takes it so.
 pub(crate) fn part_of(words: &[u32], text: &[u8], n: u32) -> Part
     ensures { (result.start ≤ result.end) × (result.end ≤ length text.now) }
 {
@@ -40,6 +41,7 @@ fn string_tag(head: u64) -> u64 {
 }
 
 // The tag of record n's key.
+// Stays beside records' `tag_at`, which asks that the record and its text are there: a proposed one may be any.
 pub(crate) fn tag(words: &[u32], text: &[u8], n: u32) -> u64 {
     if let Ok(row::KeyKind::Int) = row::KeyKind::try_from(word(words, n, row::KEY_KIND)) {
         return u64::from(word(words, n, row::KEY));

@@ -63,6 +63,7 @@ pub(crate) fn entry_at(aids: u32, i: u32) -> usize
 }
 
 // A block, at 0 where the words don't reach.
+// Stays a number: what is proposed may be anything, so a place without a block needs no case of its own.
 pub(crate) fn block_at(words: &[u32], id: u32) -> usize
     ensures { result + 97 < 2 ^ 64 }
 {

@@ -6,6 +6,7 @@ ghost use Rattle.aids.specs.Kept.{free_from, Kept};
 use crate::{Among, free, keys, layout};
 
 // The note stands above the child's number.
+// Stays a number: child and note share one word of the lent slice (fixed memory), which `last` reads as an Option.
 const NOTE: u32 = 268435456;
 
 // The note that a record has many children; with up to three misses added.

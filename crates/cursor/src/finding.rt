@@ -18,6 +18,7 @@ fn holds_ampersand(block: &[u8; BLOCK]) -> bool
 }
 
 // From an index on to the first block that holds `&` or doesn't fit.
+// Stays beside decode's `plain_blocks`: what they share is the library's chain, and the tests of a block differ.
 fn pass_blocks(input: &[u8], start: usize) -> usize
     requires { start ≤ length input.now }
     ensures { Reaches input.now start result }

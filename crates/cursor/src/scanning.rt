@@ -8,6 +8,7 @@ use config::Config;
 
 // What is scanned: a value, a bracket's key below the depth, which a `]` ends, a key at the depth, or a root key,
 // which a `[` ends too where brackets nest. (A value's end is found by `value_end`, of which the same is proved.)
+// Stays an enum: definitions and theorems of scans (specs/Scans) take it, and a closure could not stand in them.
 #[derive(Clone, Copy)]
 pub enum Until {
     Value,
@@ -17,6 +18,7 @@ pub enum Until {
 }
 
 // The symbols that end a scan. The end of the input ends every one.
+// Stays four flags: they are made once a scan and read at each taking; a match on `Until` there would test two enums.
 #[derive(Clone, Copy)]
 struct Stops {
     ampersand: bool,

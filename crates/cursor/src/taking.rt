@@ -8,6 +8,7 @@ use config::Config;
 
 // The place, which is the number of bytes taken, and the bounds of the raw segment that is being read (`index` and
 // `acc` in the source).
+// Stays indices into the input: a refusal tells its place by them, and contracts speak of places (specs/Takings).
 #[derive(Clone, Copy)]
 pub struct Cursor {
     pub place: usize,
@@ -67,6 +68,7 @@ fn escaped_bracket(bytes: &[u8]) -> Option<Symbol>
 }
 
 // The escaped bracket that stands at a place, if the flag is on.
+// Stay two parameters, `input` and `config`, here and below: else a clause says `source.entry.input.now`.
 fn escape_at(input: &[u8], config: Config, place: usize) -> Option<Symbol>
     requires { place ≤ length input.now }
     ensures { result ≡ bracket_of (escape_in config (drop place input.now)) }

@@ -64,6 +64,7 @@ fn text_answer(reading: Reading, read: Result<Text, Refusal>) -> FieldRead
 }
 
 // The result of a list read after an accepted reading. Each element is one of its records, so their number fits.
+// Stays beside `text_answer`: of a list it is a count that is answered, which must be shown to fit.
 fn list_answer(reading: Reading, read: Result<usize, Refusal>) -> FieldRead
     requires { element_count read ≤ reading.records }
     ensures { result ≡ list_read_answer reading read }
@@ -163,6 +164,7 @@ fn unasked(refusal: Refusal) -> Reading
 // offset and length are written to the lent words for answers. Of a list of no names it reads the input alone. Words
 // and text are as the reading leaves them. What stands past the last answer stays, and all answer words do where the
 // reading or what is asked is refused.
+// Stays with eight parameters: it is the call of C's `qs_fields`, whose parts stand one by one.
 pub fn deserialize_fields(
     input: &[u8],
     names: &[u8],

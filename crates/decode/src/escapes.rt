@@ -36,6 +36,7 @@ fn hex_value(b: u8) -> Option<u8>
 
 // What a '%' makes of itself and the bytes after it: the byte that the next two name, or itself and so many bytes after
 // it that stay as they are.
+// Stays an enum of its own: bytes that are kept are no error, which `Err` of a Result would say.
 #[derive(Clone, Copy)]
 pub(crate) enum Escape {
     Byte(u8),

@@ -14,6 +14,7 @@ use refusals::Refusal;
 use row::{KeyKind, Kind, Lent};
 
 // Writes the offset and length of element i. Nothing else changes.
+// Stays two words an element: so C lends the list.
 fn write_element(list: &mut [u32], i: usize, element: Text)
     requires { 2 * i + 1 < length list.old }
     ensures { list.new ≡ set (set list.old (2 * i) element.offset) (2 * i + 1) element.len }
@@ -69,6 +70,7 @@ impl Stored<'_> {
 
     // Reads the children of a record in turn into a cleared slice that has room for them. It stops at the first
     // refusal.
+    // Stays with a count: it is answered at the end too, which `enumerate` doesn't hand out.
     fn read_in_turn(
         &self,
         n: u32,
@@ -111,6 +113,7 @@ impl Stored<'_> {
     }
 
     // Reads a String as the one element of a list into a cleared slice.
+    // Stays a clause, that the list is clear: it holds until the first element is written, so no type says it.
     fn read_one(&self, n: u32, list: &mut [u32]) -> Result<usize, Refusal>
         requires { list.old ≡ replicate (length list.old) 0 }
         ensures { Writes (length list.old) list.new

@@ -12,6 +12,7 @@ use refusals::Refusal;
 use row::{Kind, Lent};
 
 // Where a text stands in the lent text.
+// Stays an offset and a length: C gets them so, and the text is lent to be written again.
 #[derive(Clone, Copy)]
 pub struct Text {
     pub offset: u32,

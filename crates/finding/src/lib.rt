@@ -33,6 +33,7 @@ const FIRST: usize = 16;
 const FROM_FINGER: usize = 8;
 
 // Where a walk along siblings stands: at one, behind another, 0 standing for none.
+// Stays with 0 for none, the links' own word: `cur` and `prev` are handed to records as they are.
 #[derive(Clone, Copy)]
 struct Walk {
     prev: u32,
@@ -79,6 +80,7 @@ fn walk_some(
 }
 
 // The position of a key in the rest of a walk.
+// Stays beside `walk_some`: the closure is written where it is handed in, as no function may hand one out.
 fn walk_all(words: &[u32], text: &[u8], walk: Walk, tag: u64, name: &[u8]) -> Position
     requires well_formed { ForSome (λ used. WellFormed words.now text.now used × ChainEnds words.now used walk.cur) }
     requires sought { Sought (tagged_key tag name.now) tag name.now }
@@ -99,6 +101,7 @@ fn walk_all(words: &[u32], text: &[u8], walk: Walk, tag: u64, name: &[u8]) -> Po
 }
 
 // A walk from the first child on.
+// Stays a clause, `Asked`: it speaks of words that the calls change, and no value of the program holds them.
 fn walk_first(words: &[u32], text: &[u8], among: Among, tag: u64, name: &[u8]) -> Walk
     requires { Asked words.now text.now among tag name.now }
     ensures { Walking (standing words.now text.now (tagged_key tag name.now))
@@ -265,6 +268,7 @@ pub fn find(words: &mut [u32], text: &[u8], among: Among, tag: u64, name: &[u8])
 }
 
 // The last child of a record, or 0.
+// Stays a number, as records' `last_child`: it is the `prev` of a gap.
 pub fn last_child(words: &[u32], among: Among) -> u32
     requires { Linked words.now among.used × Aided words.now among.used among.aids
         × (among.parent < among.used) }
@@ -331,6 +335,7 @@ pub fn know_two(words: &mut [u32], among: Among, child: u32)
 }
 
 // The aids for so many records: none where the records reach them.
+// Stays a number, `NO_AIDS` for none: it is the `aids` of `Here` and `Among`.
 pub fn aids_for(aids: u32, used: u32) -> u32
     ensures { result ≡ aids_for aids used }
 {

@@ -73,6 +73,7 @@ fn add_child(
 }
 
 // Adds a value last in a sequence.
+// Stay clauses, `Growable` and `Ready`: they speak of words that the call changes, and no value holds them.
 fn push(words: &mut [u32], among: Among, value: ValueWords) -> Option<u32>
     requires { Growable words.old among }
     ensures { Leaves (pushed words.old among.used among.parent value) among.aids
@@ -146,6 +147,7 @@ fn append_here(words: &mut [u32], among: Among, value: ValueWords) -> Option<u32
 }
 
 // Whether record n is a Map.
+// Stays a comparison with the number: `Kind::try_from` and a match say the same of one kind in more words.
 fn is_map(words: &[u32], n: u32) -> bool
     requires { n < record_count words.now }
     ensures { IsTrue result ↔ (word words.now n kind_word ≡ map_kind) }

@@ -33,6 +33,7 @@ fn below_aids(records: usize) -> Option<u32>
 }
 
 // Makes the aids ready for words in which only record 0 is used.
+// Stays a number, `NO_AIDS` for none: it is the `aids` of `Here` and `Among`.
 pub fn start(words: &mut [u32]) -> u32
     ensures { Kept (free_from result) words.old words.new × Aided words.new 1 result }
 {

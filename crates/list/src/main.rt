@@ -29,6 +29,7 @@ const OUTPUT_BYTES: usize = 262144;
 
 // Reads a query string into words and text, and writes the listing of the outcome. The rest of the output stays as it
 // was.
+// Stays a clause, `LentSlices`: it is of the lengths of three slices that are lent apart, down to the reader.
 fn respond_to(
     query: &[u8],
     config: Config,

@@ -1,8 +1,7 @@
 // The values of a tree in listing order, which the listing and the sheet share: definitions and laws, and as code what
 // is to be listed of a record, `Item`, and the name of a kind.
 // The order is specs/Listed, what a record's value is in it specs/Walking; how deep a listed value can lie is
-// specs/Levels. Below it stand the writers into a lent output (output), a record's row (row) and the definitions of a
-// reading (reading).
+// specs/Levels. Below it stand a record's row (row) and the definitions of a reading (reading).
 #![tactic(auto)]
 
 ghost use Rattle.std.specs.Prelude.{◌≡◌};
@@ -21,6 +20,7 @@ pub struct Item {
 }
 
 // The name of the kind of record n's value. A number that stands for no kind counts as Uninitialized's.
+// Stays a function: the name is bytes of a lent output that may be too short, of which Display promises nothing.
 pub fn kind_name(lent: Lent, n: u32) -> &'static [u8]
     ensures { result.now ≡ kind_shown (word lent.entry.words.now n kind_word) }
 {

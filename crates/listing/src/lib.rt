@@ -33,8 +33,8 @@ fn write_answer(answer: Reading, out: &mut Output)
     out.write_number(b"bytes=", answer.bytes as usize);
 }
 
-// Writes the lines of an accepted outcome's values; of a refused one, nothing. (Stays by its number: `list` is given the
-// four numbers that it prints, and its contract is of any of them.)
+// Writes the lines of an accepted outcome's values; of a refused one, nothing. (Stays by its number: `list` is given
+// the four numbers that it prints, and its contract is of any of them.)
 fn write_accepted(number: u32, lent: Lent, out: &mut Output)
     ensures { Wrote
         (cond (eqb number 0) (flat_map own_lines (listed_within lent.entry.words.now lent.entry.text.now)) [])

@@ -69,8 +69,8 @@ fn write_value<S: Style>(lent: Lent, item: Item, left: usize, out: &mut Output) 
     }
 }
 
-// Writes a map: each value from the first on. A sequence's are the same without keys. (Stays a `while`: the words may be
-// any, so that no list of siblings is known to end; the count of records that are left ends the walk.)
+// Writes a map: each value from the first on. A sequence's are the same without keys. (Stays a `while`: the words may
+// be any, so that no list of siblings is known to end; the count of records that are left ends the walk.)
 #[cycle(values)]
 fn write_map<S: Style>(lent: Lent, first: Item, left: usize, out: &mut Output) -> usize
     requires { first.level + left < 2 ^ 64 }

@@ -43,6 +43,7 @@ impl From<Result<Text, Refusal>> for Answer {
 }
 
 // Writes an answer from this word on. Nothing else changes.
+// Stays three words an answer: so C lends them; the end of the name before goes along, so no `zip` alone gives a turn.
 fn write_answer(answers: &mut [u32], at: usize, answer: Answer)
     requires { at + answer_width ≤ length answers.old }
     ensures { answers.new ≡ with_answer answers.old at answer }

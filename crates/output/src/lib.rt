@@ -1,8 +1,9 @@
 // Bytes and numbers written into an output that the caller lends, and that may be too short. Each writer goes on from
 // the place that the output is at, leaves all else in it as it was, and moves the place on. Bytes that find no room are
 // cut, and a place past the output's length tells it.
-// Clients cite specs/Output: `Wrote` is the contract of each writer; `filled` is what stands in the output once all is
-// written, and `answer_for` what to answer then. Numbers are specs/Numbers, and specs/Decimals says what `decimal` is.
+// Clients cite specs/Wrote: `Wrote` is the contract of each writer; and specs/Output: `filled` is what stands in the
+// output once all is written, and `answer_for` what to answer then. Numbers are specs/Numbers, and specs/Decimals says
+// what `decimal` is.
 // Below it stand bytes by name (ascii) and laws.
 #![tactic(auto)]
 
@@ -13,6 +14,7 @@ ghost use Rattle.output.specs.Output.{answer_at};
 ghost use Rattle.output.specs.Wrote.{Wrote};
 
 // A lent slice that is written from its start on, and the place of the next byte: past the end, once some were cut.
+// Stays one number, past the end once bytes are cut: `Puts` and `answer_at` (specs/Output) speak of that place.
 pub struct Output<'a> {
     pub out: &'a mut [u8],
     pub at: usize,

@@ -43,6 +43,7 @@ fn is_nothing(scanned: ScannedKey) -> bool
 }
 
 // One pair, up to where the next one starts.
+// Stay apart, the lent slices: a struct of both would be lent anew at each call, and no clause would be shorter.
 fn parse_pair(
     input: &[u8],
     config: Config,
@@ -66,6 +67,7 @@ fn parse_pair(
 }
 
 // The pairs of the input, into the tree that stands there: its first byte has a place, from which the answer's counts.
+// Stays a `while`: how far a pair reaches is known once it is read, so no range and no iterator gives the next index.
 pub fn parse_pairs(
     input: &[u8],
     config: Config,

@@ -34,6 +34,7 @@ use row::{KeyKind, Kind};
 use tree::Here;
 
 // Writes record 0 whole, as a root of a kind, with no text and no child. Nothing else changes.
+// Stays a clause, that there is room for a root: it speaks of the lent words, which no value here holds.
 fn write_root(words: &mut [u32], kind: Kind)
     requires { record_width ≤ length words.old }
     ensures { words.new ≡ with_record words.old 0 (unkeyed (childless (kind_number kind))) 0 }
@@ -144,6 +145,7 @@ fn parse_lent(
 }
 
 // Reads the input unless refusals 1 to 3 stand against it, which leave words and text unchanged.
+// Stay apart, the lent slices: C lends them so, and a struct made here would be taken apart in `pairs`.
 fn parse_input(
     input: &[u8],
     config: Config,

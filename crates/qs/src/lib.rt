@@ -46,6 +46,7 @@ pub extern "C" fn qs_utf8(bytes: &[u8]) -> i32
 }
 
 // What is made of several values where a text is asked for: 0 takes the last, anything else refuses them.
+// Stays a function: what the number means is C's, and a `From` would lie in crate fields, far from the exports.
 fn behavior(duplicates: u32) -> DuplicateKeyBehavior
     ensures { result ≡ behavior duplicates }
 {

@@ -29,6 +29,7 @@ pub struct Refused {
 
 // What a reading answers (READING, 'Records'): its number, which is 0 if it is accepted; the place of a refusal, else
 // 0; and how many records and bytes of text it uses, none if it is refused. C gets it as it stands.
+// Stays numbers, 0 for no refusal: C has this struct (include/qs.h); in Rattle a reading answers a Result.
 #[repr(C)]
 #[derive(Clone, Copy, PartialEq, Eq)]
 pub struct Reading {

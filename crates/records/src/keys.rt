@@ -25,6 +25,7 @@ enum Stored<'a> {
 }
 
 // The value of record n's key where it is an Int.
+// Stays beside `Lent::int_key`, which tests at each word that the record is there; here that is known.
 fn int_key(words: &[u32], n: u32) -> Option<u32>
     requires { n < record_count words.now }
     ensures { IntKeyOf words.now n result }
@@ -67,6 +68,7 @@ fn compare_escaped(bytes: &[u8], raw: &[u8]) -> Ordering
 
 // Where the key of record n stands to the one that is looked for: a String's bytes, which are to be decoded on the way
 // where they are escaped.
+// Stays by cases: what is looked for may be a raw segment, of which no derived order speaks.
 pub(crate) fn compare_key(
     words: &[u32],
     text: &[u8],
@@ -107,6 +109,7 @@ pub fn tag_at(words: &[u32], text: &[u8], n: u32) -> u64
 }
 
 // The tag of a key: an Int, or else a String of that part of the text.
+// Stays beside `tag_at`: one takes the key as a record has it, the other as it is looked for; they share `tags::head`.
 pub fn tag_of(key: KeyKind, text: &[u8], start: usize, len: usize) -> u64
     requires { start + len ≤ length text.now }
     ensures { result ≡ tag_of (sought_key key false (text_part text.now start len)) }

@@ -17,6 +17,7 @@ use key::KeyKind;
 use std::cmp::Ordering;
 
 // A gap among the children of a record, between two of them, 0 standing for none as in their links.
+// Stays without Options: 0 is the links' own word for none (READING, 'Records'), and `insert` writes `next` as it is.
 #[derive(Clone, Copy)]
 pub struct Gap {
     pub prev: u32,
@@ -63,6 +64,7 @@ impl<'a> Iterator for Siblings<'a> {
 
 // The position of a key among the siblings that are left, of which `prev` is the one before the first, if it is among
 // the first `most`: `compare` tells where each stands to the key.
+// Stays with a count: `take` would not tell whether the siblings ended or the count did.
 pub fn place_within<F: Fn(u32) -> Ordering>(
     siblings: Siblings,
     most: usize,
@@ -112,7 +114,7 @@ pub fn place<F: Fn(u32) -> Ordering>(siblings: Siblings, prev: u32, compare: F) 
     }
 }
 
-// Kept with a flag: an enum of the three would be made at the one call that hands in a raw segment, to be matched again.
+// Kept with a flag: an enum of the three would be made at the one call with a raw segment, to be matched again.
 // The position of a key among the children of a record. Beside a String key stand its bytes, which are to be decoded
 // on the way where they are escaped.
 pub fn find(
@@ -140,6 +142,7 @@ pub fn find(
 }
 
 // The last of the siblings from `first` on, or `before` where there is none.
+// Stays a number: it is the `prev` of a gap, where 0 is the links' own word for none; so is that of `last_child`.
 pub fn last_from(words: &[u32], before: u32, first: u32) -> u32
     requires { ForSome (λ used. Linked words.now used × ChainEnds words.now used first) }
     ensures { result ≡ last_of before (chain words.now (record_count words.now) first) }

@@ -4,6 +4,7 @@ ghost use Rattle.row.specs.Words.{record_count};
 ghost use Rattle.records.specs.Records.{value_at, key_fields, with_words, with_value, with_record};
 
 // The words of a key: its kind, an Int's value or a String's offset in the text, and a String's length.
+// Stays words, the kind too: a record is read and written back as it is, whatever number stands for its kind.
 #[derive(Clone, Copy)]
 pub struct KeyWords {
     pub kind: u32,
@@ -12,6 +13,7 @@ pub struct KeyWords {
 }
 
 // The words of a value without its children: its kind, and a String's offset in the text and length.
+// Stays words for the same reason.
 #[derive(Clone, Copy)]
 pub struct ValueWords {
     pub kind: u32,
@@ -27,6 +29,7 @@ pub struct Record {
 }
 
 // The value of record n, without its children.
+// Stays a clause, that n is one of the records: it is said of the words as they are at the call. So in `keys`.
 pub fn get_value(words: &[u32], n: u32) -> ValueWords
     requires { n < record_count words.now }
     ensures { result ≡ value_at words.now n }

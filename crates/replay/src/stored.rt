@@ -65,6 +65,7 @@ pub(crate) fn read<R: Read>(from: &mut R, buffer: &mut [u8], n: usize) -> io::Re
 }
 
 // Reads the number of cases, with which the input begins: 0 where it is cut short.
+// Stays a number: an input that is cut short there holds no case, and 0 says that.
 pub(crate) fn read_count<R: Read>(from: &mut R) -> io::Result<u32> {
     let mut bytes = [0u8; 4];
     let got = input::read_full(from, &mut bytes)?;

@@ -18,6 +18,7 @@ mod lent; // lent words and text, read together
 pub const WIDTH: usize = 8;
 
 // The words of a record, by their numbers.
+// Stay numbers: they are places of words, which C reads too (include/qs.h), and no kinds.
 pub const KIND: usize = 0;
 
 pub const KEY_KIND: usize = 1;

@@ -16,6 +16,7 @@ use aids::Among;
 
 // Where the tree stands: how many records and bytes of text it uses, the record that a command is for, and how many
 // records stand below the aids.
+// Stays with lengths beside the lent slices: memory is fixed, and how much of it is used is what a reading answers.
 #[derive(Clone, Copy)]
 pub struct Here {
     pub records: u32,

@@ -38,6 +38,7 @@ pub fn expect_map(words: &mut [u32], here: Here) -> Result<Here, Refusal>
 
 // Needs a sequence at the record, for `[]`: a Sequence stays, Uninitialized is made one, any other kind is refused.
 // Nothing else changes.
+// Stays beside `expect_map`: they refuse other kinds by other refusals, so one function would take a table of them.
 pub fn expect_sequence(words: &mut [u32], here: Here) -> Result<Here, Refusal>
     requires { here.node < record_count words.old }
     ensures words { (result ≡ sequence_answer here (word words.old here.node kind_word))

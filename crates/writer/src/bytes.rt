@@ -24,6 +24,7 @@ pub struct Digits {
 }
 
 // Writes a byte.
+// Stay apart, `out` and `at`: the walk keeps `at` in `Progress`, without the slice, and specs/Walking speaks of both.
 pub(crate) fn put(byte: u8, out: &mut [u8], at: usize) -> usize
     ensures { Puts (byte ∷ []) (page out.old at) (page out.new result) }
 {
@@ -213,6 +214,7 @@ pub(crate) fn write_text(bytes: &[u8], out: &mut [u8], at: usize) -> usize
 }
 
 // The digits of a number, turned round.
+// Stays a `while`: digits are taken until none is left, which no range tells, so a `for` is no plainer.
 fn turned(n: u32) -> Digits
     ensures { digits result ≡ decimal n }
 {
@@ -229,6 +231,7 @@ fn turned(n: u32) -> Digits
 
 // Writes a number in decimal. Its digits are turned round first, so that they come out from the first on with no room
 // to hold them and no call for each.
+// Stays beside output's, which calls itself for each digit, and which no length limit stops.
 pub(crate) fn write_decimal(n: u32, out: &mut [u8], at: usize) -> usize
     ensures { Puts (decimal n) (page out.old at) (page out.new result) }
 {
@@ -261,6 +264,7 @@ fn has_room_again(start: usize, end: usize, out: &[u8], at: usize) -> bool
 }
 
 // Writes once more the bytes that stand from `start` to `end`, byte by byte.
+// Stays by the index: the same slice is read and written, so no iterator can lend it meanwhile.
 fn copy_each(start: usize, end: usize, out: &mut [u8], at: usize) -> usize
     ensures { Copies start end (page out.old at) (page out.new result) }
 {

@@ -29,6 +29,7 @@ pub(crate) struct Source<'a> {
 
 // Writes the input for the tree that words and text hold, as much of it as the output has room for and the length limit
 // allows. Answers its length, or the length limit and one more where it is longer. Past it the output is unchanged.
+// Stays a number, one past the limit where it is longer: the contracts say it so (`length_within`, specs/Measuring).
 pub fn write_tree(config: Config, words: &[u32], text: &[u8], out: &mut [u8]) -> usize
     ensures { FilledRoot (value_in words.now text.now) → Holds out.old
         (written config (tree_in words.now text.now)) (page out.new result) }

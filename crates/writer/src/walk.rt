@@ -38,6 +38,7 @@ pub struct Item {
 }
 
 // Which siblings are written, and how: a Map's under keys that aren't empty, a Map's under the empty key, a Sequence's.
+// Stays an enum: the children call back into the walk, and `taken_by` and `child_at` of the definitions go by it.
 #[derive(Clone, Copy)]
 pub enum Part {
     Named,
@@ -233,6 +234,7 @@ impl Source<'_> {
 
     // Writes the pairs of a Map or a Sequence behind what is written so far: those of its children, but of a Map those
     // of the empty key last. Few Maps have it, and the children of the others are walked only once.
+    // Stays a clause, that level and steps fit: they stand in one struct in some calls and apart in others.
     #[cycle(children)]
     fn write_inner(&self, item: Item, part: Part, out: &mut [u8]) -> usize
         requires { (0 < item.left) × (item.place.level + item.left < 2 ^ 64)
@@ -296,8 +298,8 @@ impl Source<'_> {
 
     // Writes the pairs of a Map's children under the empty key, from the first child on along its siblings, behind
     // those of the others. `first` has the place of the Map.
-    // Kept beside `write_children`: one function for both would be called in two places, so that a record would cost two
-    // calls (DECISIONS, 'The writer').
+    // Kept beside `write_children`: one function for both would be called in two places, so that a record would cost
+    // two calls (DECISIONS, 'The writer').
     #[cycle(children)]
     fn write_empty(&self, first: Item, out: &mut [u8], from: Progress) -> Progress
         requires { first.place.level + first.left < 2 ^ 64 }

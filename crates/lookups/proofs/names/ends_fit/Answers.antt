@@ -5,7 +5,7 @@ use Rattle.lookups.proofs.names.ends_fit.Goals.{then-end-start-via-then-end-star
 pub returns-then-end-start : goal.returns-then-end-start
 returns-then-end-start c =
     elim c.then-end-start.branch [
-      then-end-start-via-then-end-start w ↦ falls c.loop-end.invariant c.loop-end-test.true w.if-end-start.true
+      | then-end-start-via-then-end-start w ↦ falls c.loop-end.invariant c.loop-end-test.true w.if-end-start.true
       | then-end-start-via-else-end-start+then-size-end w ↦ passes c.loop-end.invariant c.loop-end-test.true w.if-end-start.false w.if-size-end.true
     ]
 
