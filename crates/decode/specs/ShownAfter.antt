@@ -14,8 +14,8 @@ pub record Calls (raw : List ℕ) : Type 0 where
   pub writes : left ≡ written raw lent
   pub shows : shown ≡ shown_of raw left answered
 
--- After a number the decoding is shown. After a `None` nothing is shown, but for raw bytes without `+` and `%`: these are
--- their own decoding, and are shown in any case.
+-- After a number the decoding is shown. After a `None` nothing is shown, but for raw bytes without `+` and `%`: these
+-- are their own decoding, and are shown in any case.
 pub record Faithful (raw : List ℕ) (calls : Calls raw) : Type 0 where
   pub yes : is_some calls.answered ≡ true → calls.shown ≡ decoded raw
   pub plain : all_plain raw ≡ true → (calls.shown ≡ raw) × (raw ≡ decoded raw)

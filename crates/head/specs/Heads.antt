@@ -1,6 +1,7 @@
 -- READING, 'The listing': the head of the program's input, a line with the depth and one with the flag. What follows,
 -- to the end of the input, is the query string, READING's ticket.
-use Rattle.std.specs.Prelude.{ℕ, ◌+◌, Bool, true, false, cond, not, List, [], ◌∷◌, eqb, length, drop, Option, Some, None}
+use Rattle.std.specs.Prelude.{ℕ, ◌+◌, Bool, true, false, cond, not, List, [], ◌∷◌, eqb, length, drop}
+use Rattle.std.specs.Prelude.{Option, Some, None}
 use Rattle.ascii.specs.Bytes.{zero}
 use Rattle.ascii.specs.Digits.{is_digit, value_from}
 use Rattle.ascii.specs.Texts.{ascii}

@@ -6,6 +6,7 @@ use Rattle.output.specs.Wrote.{Wrote}
 use Rattle.listed.specs.Listed.{Listed}
 
 -- These values were written, each as it is shown, and as many fewer are left.
-pub record WroteValues (shown : Listed → List ℕ) (values : List Listed) (before after : Output) (left left' : ℕ) : Type 0 where
+pub record WroteValues (shown : Listed → List ℕ) (values : List Listed) (before after : Output) (left left' : ℕ)
+    : Type 0 where
   pub wrote : Wrote (flat_map shown values) before after
   pub count : left' + length values ≡ left

@@ -1,5 +1,6 @@
 -- The output: a slice that is filled from its start on, and may be too short.
-use Rattle.std.specs.Prelude.{ℕ, ◌+◌, ◌≡◌, cond, List, [], ◌∷◌, ◌++◌, leb, ltb, length, take, drop, set, Option, Some, None}
+use Rattle.std.specs.Prelude.{ℕ, ◌+◌, ◌≡◌, cond, List, [], ◌∷◌, ◌++◌, leb, ltb, length, take, drop, set}
+use Rattle.std.specs.Prelude.{Option, Some, None}
 
 -- An output that is filled with these bytes from its start on: as many of them as it holds, and the further elements as
 -- they were.

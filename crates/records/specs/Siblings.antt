@@ -60,7 +60,9 @@ pub record ChainEnds (ws : List ℕ) (used n : ℕ) : Type 0 where
 
 -- The siblings from record n on are among the words' records, and they end.
 pub record Ends (ws : List ℕ) (n : ℕ) : Type 0 where
-  pub inside : (i : ℕ) → i < length (chain ws (record_count ws) n) → get_or (chain ws (record_count ws) n) i 0 < record_count ws
+  pub inside :
+      (i : ℕ) → i < length (chain ws (record_count ws) n)
+      → get_or (chain ws (record_count ws) n) i 0 < record_count ws
   pub few : length (chain ws (record_count ws) n) < record_count ws
 
 -- Of the records used: the numbers of a record's children are above its own, and each list of children ends. Nothing is

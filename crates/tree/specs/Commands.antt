@@ -25,8 +25,8 @@ pub data After (env : Environment) (ws text : List ℕ) (path : List Key) : Resu
 -- record, the words, the text and the answer are as the rule makes them, and `to path` leads to the record that is
 -- answered.
 abbrev pub Performs :
-    List ℕ → List ℕ → List ℕ → List ℕ → Here → (Environment → List Key → Rule Node) → (List Key → List Key) → Result Here Refusal
-    → Type 0
+    List ℕ → List ℕ → List ℕ → List ℕ → Here → (Environment → List Key → Rule Node) → (List Key → List Key)
+    → Result Here Refusal → Type 0
 Performs ws text ws' text' here rule to r =
     (env : Environment) (path : List Key) (tree : Node) (laid : List ℕ) → StoredAt env ws text here path tree laid
     → After env ws' text' (to path) r (rule env path tree (used_by here laid))

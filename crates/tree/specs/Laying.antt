@@ -1,5 +1,6 @@
 -- READING, 'Records' and 'Decoding': new text is decoded straight behind what is used of the lent text.
-use Rattle.std.specs.Prelude.{◌≡◌, Bool, cond, List, ◌++◌, ℕ, ◌+◌, ◌≤◌, ◌<◌, leb, length, take, drop, Option, Some, None}
+use Rattle.std.specs.Prelude.{◌≡◌, Bool, cond, List, ◌++◌, ℕ, ◌+◌, ◌≤◌, ◌<◌, leb, length, take, drop}
+use Rattle.std.specs.Prelude.{Option, Some, None}
 
 -- Whether some bytes fit behind those used.
 abbrev pub fits_behind : List ℕ → ℕ → List ℕ → Bool
