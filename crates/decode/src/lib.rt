@@ -4,10 +4,10 @@
 // Below it stands `laws`.
 #![tactic(auto)]
 
-ghost use Rattle.std.specs.Prelude.{◌≡◌, leb, length};
-ghost use Rattle.std.specs.Iterator.{YieldsFirst, item_count};
+ghost use Rattle.std.specs.Prelude.{◌≡◌, IfSome, ⊤, leb, length};
+ghost use Rattle.std.specs.Iterator.{MakesProgress, YieldsFirst, item_count};
 ghost use Rattle.decode.specs.Decoding.{decoded, plus_to_space, answer, written};
-ghost use Rattle.decode.specs.Stepping.{bytes_left};
+ghost use Rattle.decode.specs.Stepping.{bytes_left, Shortens};
 ghost use Rattle.decode.specs.Shown.{plain_byte, all_plain, shown_of};
 
 use blocks::plain_blocks;
@@ -40,7 +40,11 @@ impl Iterator for Decoder<'_> {
 
     ghost remaining = { item_count bytes_left };
 
-    fn next(&mut self) -> Option<u8> {
+    fn next(&mut self) -> Option<u8>
+        ensures steps { YieldsFirst bytes_left self.old result self.new }
+        ensures goes { MakesProgress (λ d. ⊤) (item_count bytes_left) self.old result self.new }
+        ensures shorter { IfSome result (λ b. Shortens self.old.raw.now self.new.raw.now) }
+    {
         let (&b, after) = self.raw.split_first()?;
         self.raw = after;
         if 0 < self.keep {

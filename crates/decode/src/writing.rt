@@ -12,7 +12,28 @@ fn put(out: &mut [u8], n: usize, bytes: &[u8])
     requires { n + length bytes.now ≤ length out.old }
     ensures { out.new ≡ take n out.old ++ bytes.now ++ drop (n + length bytes.now) out.old }
 {
-    out[n..n + bytes.len()].copy_from_slice(bytes);
+    for (i, byte) in bytes.iter().enumerate() {
+        out[n + i] = *byte;
+    }
+}
+
+// The same for a '%' and what it swallows, one to three bytes, of which each costs less by itself than in a loop.
+fn put_kept(out: &mut [u8], n: usize, kept: &[u8])
+    requires { n + length kept.now ≤ length out.old }
+    ensures { out.new ≡ take n out.old ++ kept.now ++ drop (n + length kept.now) out.old }
+{
+    match kept {
+        [a, b] => {
+            out[n] = *a;
+            out[n + 1] = *b;
+        }
+        [a, b, c] => {
+            out[n] = *a;
+            out[n + 1] = *b;
+            out[n + 2] = *c;
+        }
+        _ => put(out, n, kept),
+    }
 }
 
 // Writes the decoded bytes, which fit, in one pass and answers their number. Further bytes of `out` stay as they were.
@@ -40,7 +61,7 @@ fn lay(raw: &[u8], out: &mut [u8]) -> usize
             }
             Escape::Kept(count) => {
                 let (kept, others) = rest.split_at(count + 1);
-                put(out, n, kept);
+                put_kept(out, n, kept);
                 n += kept.len();
                 rest = others;
             }

@@ -25,6 +25,7 @@ pub trait Style {
 }
 
 // As the four lines of the listing.
+#[derive(Clone, Copy)]
 pub struct Lines;
 
 impl Style for Lines {
@@ -36,6 +37,7 @@ impl Style for Lines {
 }
 
 // As a line of the sheet.
+#[derive(Clone, Copy)]
 pub struct Sheet;
 
 impl Style for Sheet {

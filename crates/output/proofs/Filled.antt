@@ -7,7 +7,8 @@ use native.Mathlib.Numerals.{add-one}
 use native.Mathlib.Omega.{arith}
 use borrow.Author.Tests.{lt-ltb, le-ltb, le-leb, lt-leb}
 use lib.Dec.{leb}
-use lib.ListN.{length, take, drop, set, length-set, take-append-drop, drop_of_length-le}
+use lib.ListN.{length, take, drop, set, replicate, length-set, length-replicate, take-append-drop, drop_of_length-le}
+use borrow.Rule.Slice.PartMut.{put_mid, Post-is}
 use lib.Seq.{take-nil, take_all, take-suc-set, drop-set-lt}
 use Rattle.laws.proofs.Cases.{below}
 use Rattle.std.specs.Prelude.{Some, None}
@@ -57,6 +58,17 @@ put-from (b ∷ s) out at h =
     let k : place (at + suc (length s)) (length out) ≡ length out + 1 = rw (lt-leb (at + suc (length s)) (length out) (omega arith)) in
     ap (λ c. put (cond c (page (set out at b) (at + 1)) (page out (length out + 1))) s) (le-ltb at (length out) g)
     ∙ cut_stays s out ∙ sym (ap₂ page f k))
+
+-- A byte put so many times, all of which find room: they stand in the place of as many.
+pub puts_repeated : (b n : ℕ) (out : List ℕ) (at : ℕ) {part : List ℕ} → at ≤ length out → n ≤ length out - at → part ≡ replicate n b
+    → Puts (replicate n b) (page out at) (page (put_mid at (at + n - at) out part) (at + n))
+puts_repeated b n out at {part} h g e =
+    let s = replicate n b in
+    let long : length s ≡ n = length-replicate n b in
+    let all : take (length out - at) s ≡ s = take_all (length out - at) s (omega (arith, long)) in
+    let k : place (at + length s) (length out) ≡ at + n = rw (long, le-leb (at + n) (length out) (omega arith)) in
+    let m : put_mid at (at + n - at) out part ≡ from s out at = rw (e, Post-is at (at + n) out (omega arith), all, long) in
+    record { puts = ap₂ page m (sym k) ∙ sym (put-from s out at h) }
 
 -- Put from the start on: what the output then holds, and what the place tells.
 module _ (bytes out out' : List ℕ) (end : ℕ) (p : Puts bytes (page out 0) (page out' end)) where

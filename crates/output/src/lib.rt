@@ -9,7 +9,7 @@
 
 pub mod numbers; // decimal and hex
 
-ghost use Rattle.std.specs.Prelude.{◌≡◌, [], ◌∷◌, length};
+ghost use Rattle.std.specs.Prelude.{◌≡◌, [], ◌∷◌, length, replicate};
 ghost use Rattle.output.specs.Output.{answer_at};
 ghost use Rattle.output.specs.Wrote.{Wrote};
 
@@ -58,6 +58,21 @@ impl<'a> Output<'a> {
             self.at += 1;
         } else {
             self.at = self.out.len() + 1;
+        }
+    }
+
+    // Writes a byte so many times: at once where there is room for all of them.
+    pub fn write_repeated(&mut self, byte: u8, count: usize)
+        ensures { Wrote (replicate count byte) self.old self.new }
+    {
+        let start = self.at;
+        if start <= self.out.len() && count <= self.out.len() - start {
+            self.out[start..start + count].fill(byte);
+            self.at = start + count;
+        } else {
+            for _ in 0..count {
+                self.write_byte(byte);
+            }
         }
     }
 

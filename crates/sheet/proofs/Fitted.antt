@@ -3,7 +3,6 @@ use mathlib.Core.Path.{◌≡◌, refl, sym, ap, ap₂, ◌∙◌}
 use mathlib.Core.Bool.{true}
 use mathlib.Core.List.{List, [], ◌∷◌, ◌++◌, map, map-append, append-nil}
 use Prim.Native.Nat.{ℕ, zero, suc, ◌+◌, ◌-◌, ◌^◌, ◌≤◌, ◌<◌}
-use native.Mathlib.Numerals.{add-one}
 use native.Mathlib.Omega.{arith}
 use borrow.Author.Tests.{le-leb, lt-leb}
 use lib.ListN.{length, take, drop, get_or, length-replicate}
@@ -16,14 +15,6 @@ use Rattle.output.proofs.Digits.{decimals}
 use Rattle.output.proofs.Wrote.{take_next}
 use Rattle.output.proofs.Lengths.{decimal-length}
 use Rattle.sheet.specs.Line.{blanks, right_aligned, letters, visible, fitted}
-
--- Spaces: one more behind the others.
-blanks-suc : (n : ℕ) → blanks n ++ (32 ∷ []) ≡ blanks (suc n)
-blanks-suc zero = refl
-blanks-suc (suc n) = ap (λ s. 32 ∷ s) (blanks-suc n)
-
-pub blanks_next : (n : ℕ) → blanks n ++ (32 ∷ []) ≡ blanks (n + 1)
-blanks_next n = rw (add-one n) (blanks-suc n)
 
 -- A byte as it is shown: below 33, above 126, and between.
 pub visible-low : (b : ℕ) → b < 33 → 46 ≡ visible b

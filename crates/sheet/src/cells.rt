@@ -10,9 +10,7 @@ use output::{Output, numbers};
 pub(crate) fn write_blanks(count: usize, out: &mut Output)
     ensures { Wrote (blanks count) out.old out.new }
 {
-    for _ in 0..count {
-        out.write_byte(b' ');
-    }
+    out.write_repeated(b' ', count);
 }
 
 // Writes a number in decimal at the right of so many columns.

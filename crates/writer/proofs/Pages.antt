@@ -7,13 +7,12 @@ use native.Mathlib.Numerals.{add-one}
 use native.Mathlib.Omega.{arith}
 use borrow.Author.Tests.{ltb-true, ltb-false, lt-ltb, le-ltb, le-leb, lt-leb, eq-eqb}
 use lib.Dec.{ltb, eqb}
-use lib.ListN.{length, take, drop, get_or, get_or-eq_default, set, length-set, length-drop, take-append-drop, drop_of_length-le, get_or-append}
+use lib.ListN.{length, take, drop, get_or, get_or-eq_default, set, length-set, take-append-drop, drop_of_length-le, get_or-append}
 use Rattle.std.specs.Prelude.{Option, Some, None, is_some, IfSome, unwrap_or}
 use Rattle.std.specs.Option.{option_copied}
 use Rattle.std.proofs.lemmas.List.{get_or_read}
 use denote.Ref.{Bor}
-use Rattle.std.proofs.lemmas.List.{drop-take}
-use lib.Seq.{take-take, drop-drop, length-take-le, take-nil, take_all, take-suc-set, drop-set-lt, set_out}
+use lib.Seq.{take-nil, take_all, take-suc-set, drop-set-lt, set_out}
 use Rattle.laws.proofs.Cases.{by_test, below}
 use Rattle.ascii.specs.Bytes.{ampersand}
 use Rattle.config.specs.Limits.{max_len}
@@ -118,30 +117,6 @@ put-from (b ∷ s) out at h =
     let same : from s (set out at b) (at + 1) ≡ from (b ∷ s) out at =
     ap (λ o. from s o (at + 1)) (set_out out at b g) ∙ from_past s out (at + 1) (omega arith) ∙ sym (from_past (b ∷ s) out at g) in
     step ∙ ap₂ page same e)
-
--- Bytes of the output stored once more behind it, where there is room: what stands before the place, the copy, and what
--- stands behind it.
-pub puts_again : (start len : ℕ) (out : List ℕ) (at : ℕ) {front copied back : List ℕ}
-    → at + len ≤ length out → at + len ≤ max_len → start + len ≤ at
-    → front ≡ take at out → back ≡ drop at out → copied ≡ take (start + len - start) (drop start front)
-    → Puts (take len (drop start out)) (page out at) (page (front ++ (copied ++ drop len back)) (at + len))
-puts_again start len out at {front} {copied} {back} fits within before f b c =
-    let s = take len (drop start out) in
-    let n : start + len - start ≡ len = omega arith in
-    let m : start + (at - start) ≡ at = omega arith in
-    let long : length s ≡ len = length-take-le len (drop start out) (omega (arith, length-drop start out)) in
-    let all : take (length out - at) s ≡ s = take_all (length out - at) s (omega (arith, long)) in
-    let made : put (page out at) s ≡ page (from s out at) (at + length s) = put-from s out at (omega (arith, long)) in
-    let same : copied ≡ s =
-    c ∙ ap (λ k. take k (drop start front)) n ∙ ap (λ l. take len (drop start l)) f
-    ∙ ap (λ k. take len (drop start (take k out))) (sym m) ∙ ap (take len) (drop-take start (at - start) out)
-    ∙ take-take len (at - start) (drop start out) (omega arith) in
-    let behind : drop len back ≡ drop (at + length s) out =
-    ap (drop len) b ∙ drop-drop len at out ∙ ap (λ k. drop (at + k) out) (sym long) in
-    let laid : from s out at ≡ front ++ (copied ++ drop len back) =
-    ap (λ x. take at out ++ (x ++ drop (at + length s) out)) (all ∙ sym same)
-    ∙ ap (λ x. take at out ++ (copied ++ x)) (sym behind) ∙ ap (λ x. x ++ (copied ++ drop len back)) (sym f) in
-    record { puts = sym (made ∙ ap₂ page laid (ap (λ k. at + k) long)) }
 
 -- An element, or 0 past the end.
 pub element_or_0 : (s : List ℕ) (i : ℕ) (r : Option (Bor ℕ)) → is_some r ≡ ltb i (length s) → IfSome r (λ x. x.now ≡ get_or s i x.now)

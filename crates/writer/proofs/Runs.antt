@@ -7,9 +7,10 @@ use native.Mathlib.Omega.{arith}
 use borrow.Author.Tests.{lt-ltb, le-ltb, leb-true, ne_eqb}
 use lib.Dec.{eqb, leb}
 use Rattle.std.specs.List.{fold, filter}
-use lib.ListN.{length, drop, get_or, set, length-append, length-set}
-use lib.Seq.{set_out}
+use lib.ListN.{length, take, drop, get_or, set, length-append, length-set}
+use lib.Seq.{set_out, get_or-set_other}
 use Rattle.laws.proofs.Cases.{split, below, true-false, halves}
+use Rattle.laws.proofs.Lists.{drop_1}
 use Rattle.ascii.specs.Bytes.{percent, plus, space, ampersand, equals, opening, closing}
 use Rattle.config.specs.Limits.{max_len}
 use Rattle.output.specs.Numbers.{hex_digit}
@@ -239,3 +240,39 @@ laying_more {bytes} {out₀} {out} {out₁} {at} {next} {next₁} {i} v h f g =
 pub laying_done : {bytes out₀ out : List ℕ} {at next i : ℕ} → Laying bytes out₀ out at next i → length bytes ≤ i
     → Puts (escaped bytes) (page out₀ at) (page out next)
 laying_done {bytes} {i = i} v h = putting_done v.putting (escaped-done bytes i h)
+
+-- Bytes of the output stored once more behind it: what stands before the place stays, so they are those that stood there at first.
+pub record Again (start len : ℕ) (out₀ out : List ℕ) (at i : ℕ) : Type 0 where
+  pub putting : Putting (take (len - i) (drop (start + i) out₀)) (take len (drop start out₀)) out₀ out at (at + i)
+  pub kept : (j : ℕ) → j < at → get_or out j 0 ≡ get_or out₀ j 0
+
+pub again-start : (start len : ℕ) (out : List ℕ) (at : ℕ) → Again start len out out at 0
+again-start start len out at =
+    let e : start + 0 ≡ start = omega arith in
+    let f : len - 0 ≡ len = omega arith in
+    let g : at + 0 ≡ at = omega arith in
+    record { putting = rw (e, f, g) (record { to_come = refl; long = refl }); kept = λ j h. refl }
+
+pub again-more : {start len : ℕ} {out₀ out : List ℕ} {at i : ℕ} → Again start len out₀ out at i → Room len out₀ at × (start + len ≤ at) → i < len
+    → Again start len out₀ (set out (at + i) (get_or out (start + i) 0)) at (i + 1)
+again-more {start} {len} {out₀} {out} {at} {i} v r h =
+    record {
+      putting = stored_more i v.putting
+          (ap (λ n. take n (drop (start + i) out₀)) up
+          ∙ ap (take (suc (len - (i + 1)))) (drop_1 out₀ (start + i) (omega (arith, r.0.fits, r.1)))
+          ∙ ap (λ n. get_or out₀ (start + i) 0 ∷ take (len - (i + 1)) (drop n out₀)) on
+          ∙ ap (λ b. b ∷ take (len - (i + 1)) (drop (start + (i + 1)) out₀)) (sym (v.kept (start + i) (omega (arith, r.1)))))
+          (omega (arith, r.0.within));
+      kept = λ j k. get_or-set_other out (at + i) j (get_or out (start + i) 0) 0 (λ e. omega arith) ∙ v.kept j k;
+    }
+  where
+    up : len - i ≡ suc (len - (i + 1))
+    up = omega arith
+
+    on : start + i + 1 ≡ start + (i + 1)
+    on = omega arith
+
+pub again-done : {start len : ℕ} {out₀ out : List ℕ} {at i n : ℕ} → Again start len out₀ out at i → len ≤ i → n ≡ at + i
+    → Puts (take len (drop start out₀)) (page out₀ at) (page out n)
+again-done {start} {len} {out₀} {out} {at} {i} {n} v h f =
+    let e : len - i ≡ 0 = omega arith in rw f (putting_done v.putting (ap (λ k. take k (drop (start + i) out₀)) e))

@@ -37,11 +37,11 @@ pub(crate) fn put(byte: u8, out: &mut [u8], at: usize) -> usize
     at + 1
 }
 
-// Whether a byte must be escaped.
+// Whether a byte must be escaped. Tests in a row are compiled to a look at one bit, which those of `matches!` are not.
 fn is_reserved(b: u8) -> bool
     ensures { result ≡ is_reserved b }
 {
-    matches!(b, b'%' | b'+' | b'&' | b'=' | b'[' | b']')
+    b == b'%' || b == b'+' || b == b'&' || b == b'=' || b == b'[' || b == b']'
 }
 
 // Writes a byte as an escape.
@@ -190,7 +190,9 @@ fn write_reserved(bytes: &[u8], out: &mut [u8], at: usize) -> usize
     write_escaped(bytes, out, at)
 }
 
-// Writes bytes escaped, as `write_escaped` does, faster than it where they are many.
+// Writes bytes escaped, as `write_escaped` does, faster than it where they are many. Never taken into its callers: its
+// loops would stand in the way of short keys and values, which most are.
+#[inline(never)]
 fn write_long(bytes: &[u8], out: &mut [u8], at: usize) -> usize
     ensures { Puts (escaped bytes.now) (page out.old at) (page out.new result) }
 {
@@ -203,7 +205,8 @@ fn write_long(bytes: &[u8], out: &mut [u8], at: usize) -> usize
     write_plain(bytes, out, at)
 }
 
-// Writes bytes escaped, at once where they are many.
+// Writes bytes escaped, at once where they are many. Always taken into its callers: short bytes then cost no call.
+#[inline(always)]
 pub(crate) fn write_text(bytes: &[u8], out: &mut [u8], at: usize) -> usize
     ensures { Puts (escaped bytes.now) (page out.old at) (page out.new result) }
 {
@@ -250,8 +253,9 @@ fn lay_again(start: usize, len: usize, out: &mut [u8], at: usize) -> usize
     ensures { Puts (take len (drop start out.old))
         (page out.old at) (page out.new result) }
 {
-    let (written, free) = out.split_at_mut(at);
-    free[..len].copy_from_slice(&written[start..start + len]);
+    for i in 0..len {
+        out[at + i] = out[start + i];
+    }
     at + len
 }
 

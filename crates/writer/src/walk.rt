@@ -235,6 +235,8 @@ impl Source<'_> {
     // Writes the pairs of a Map or a Sequence behind what is written so far: those of its children, but of a Map those
     // of the empty key last. Few Maps have it, and the children of the others are walked only once.
     // Stays a clause, that level and steps fit: they stand in one struct in some calls and apart in others.
+    // Always taken into its one caller: as a call of its own it would cost each Map and each Sequence one more.
+    #[inline(always)]
     #[cycle(children)]
     fn write_inner(&self, item: Item, part: Part, out: &mut [u8]) -> usize
         requires { (0 < item.left) × (item.place.level + item.left < 2 ^ 64)

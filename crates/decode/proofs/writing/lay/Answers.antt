@@ -24,15 +24,15 @@ loop-b-preserved-in-Byte c =
     let e = decoded_byte c.in-Some.ensures.cases.0 c.if-b-ne37.false c.in-Byte.ensures in
     laid_more c.loop-b.invariant _ _ e (laid-room c.loop-b.invariant _ _ e c.requires)
 
-pub put-requires : goal.put-requires
-put-requires c =
+pub put_kept-requires : goal.put_kept-requires
+put_kept-requires c =
     let e = decoded_kept c.in-Some.ensures.cases.0 c.if-b-ne37.false c.in-Kept.ensures c.split_at.ensures.front in
     laid-fits c.loop-b.invariant _ _ e c.requires
 
 pub loop-b-preserved : goal.loop-b-preserved
 loop-b-preserved c =
     let e = decoded_kept c.in-Some.ensures.cases.0 c.if-b-ne37.false c.in-Kept.ensures c.split_at.ensures.front in
-    rw (c.put.ensures, c.split_at.ensures.back) (laid_put c.loop-b.invariant _ _ e (laid-fits c.loop-b.invariant _ _ e c.requires))
+    rw (c.put_kept.ensures, c.split_at.ensures.back) (laid_put c.loop-b.invariant _ _ e (laid-fits c.loop-b.invariant _ _ e c.requires))
 
 pub returns-clause-length : goal.returns-clause-length
 returns-clause-length c = (laid_done c.loop-b.invariant c.in_default.ensures.cases).0

@@ -1,10 +1,12 @@
--- What stands before the place, the copy of a part of it, and the rest.
-use Rattle.writer.proofs.Pages.{puts_again}
+use native.Mathlib.Omega.{arith}
+use Rattle.writer.proofs.Runs.{again-start, again-more, again-done}
 use Rattle.writer.proofs.bytes.lay_again.Goals as goal
 
+pub loop-i-init : goal.loop-i-init
+loop-i-init c = again-start _ _ _ _
+
+pub loop-i-preserved : goal.loop-i-preserved
+loop-i-preserved c = again-more c.loop-i.invariant c.requires c.loop-i-test.true
+
 pub returns : goal.returns
-returns c =
-    let s = c.args in
-    let parts = c.split_at_mut-written.ensures in
-    puts_again s.start s.len s.out.now s.at c.requires.0.fits c.requires.0.within c.requires.1 parts.front parts.back
-    c.copy_from_slice.ensures.after
+returns c = again-done c.loop-i.invariant c.loop-i-test.false (omega arith)
