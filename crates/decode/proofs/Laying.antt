@@ -1,12 +1,13 @@
 -- Decoding in one pass: the loop that writes.
-use mathlib.Core.Path.{◌≡◌, refl, sym, ap, ◌∙◌}
+use mathlib.Core.Path.{◌≡◌, refl, sym, ap, subst, ◌∙◌}
 use mathlib.Core.List.{List, ◌∷◌, ◌++◌, append_assoc, append-nil}
 use Prim.Native.Nat.{ℕ, ◌+◌, ◌-◌, ◌≤◌, ◌<◌}
 use native.Mathlib.Nat.{zero-add}
 use native.Mathlib.Numerals.{add-one}
 use native.Mathlib.Omega.{arith}
-use lib.ListN.{length, take, drop, set, length-set, length-drop, length-append, take-append-drop}
-use lib.Seq.{take-suc-set, drop-set-lt, drop-drop, length-take-le, take-append_seam, drop-append_seam}
+use lib.ListN.{length, take, drop, get_or, set, length-set, length-drop, length-append, take-append-drop}
+use Rattle.std.proofs.lemmas.List.Edits.{paste_more}
+use lib.Seq.{paste, paste-zero, take-suc-set, drop-set-lt, drop-drop, length-take-le, take-append_seam, drop-append_seam}
 use borrow.Rule.Slice.PartMut.{put_mid, mid_of}
 use Rattle.laws.proofs.Lists.{mid_tail, put_tail}
 use Rattle.std.proofs.lemmas.List.{nil_from_length}
@@ -63,6 +64,21 @@ module _ {whole left before after : List ℕ} {n : ℕ} (v : LaidSoFar whole lef
           long = omega (arith, length-append front d, m, length-drop (n + length bytes) after, v.long);
         }
 
+  -- The bytes in front of what is left are written as they are.
+  module _ (k : ℕ) (e : decoded left ≡ take (k + 1) left ++ decoded (drop (k + 1) left)) (h : k + 1 ≤ length left) where
+    kept_long : length (take (k + 1) left) ≡ k + 1
+    kept_long = length-take-le (k + 1) left h
+
+    pub laid-kept : length whole ≤ length before → n + (k + 1) ≤ length after
+    laid-kept fits = omega (arith, kept_long, laid-fits (take (k + 1) left) (drop (k + 1) left) e fits)
+
+    pub laid_kept : length whole ≤ length before
+        → LaidSoFar whole (drop (k + 1) left) before (take n after ++ take (k + 1) left ++ drop (n + (k + 1)) after) (n + (k + 1))
+    laid_kept fits =
+        let s = take (k + 1) left in
+        subst (λ m. LaidSoFar whole (drop (k + 1) left) before (take n after ++ s ++ drop (n + m) after) (n + m)) kept_long
+        (laid_put s (drop (k + 1) left) e (laid-fits s (drop (k + 1) left) e fits))
+
   -- Nothing is left.
   pub laid_done : length left ≡ 0 → (n ≡ length whole) × (after ≡ whole ++ drop (length whole) before)
   unfolding decoded
@@ -70,6 +86,23 @@ module _ {whole left before after : List ℕ} {n : ℕ} (v : LaidSoFar whole lef
       let e : take n after ≡ whole = simp (nil_from_length left z, append-nil) at v.so_far in
       let m : n ≡ length whole = sym (length-take-le n after v.room) ∙ ap length e in
       (m, sym (take-append-drop n after) ∙ rw (e, v.beyond, m))
+
+-- Two bytes, or three, written one after the other.
+module _ (out : List ℕ) (n : ℕ) (s : List ℕ) where
+  pasted_one : n + 1 ≤ length out → 1 ≤ length s → set out n (get_or s 0 0) ≡ paste out n s 1
+  pasted_one h k =
+      let e : n ≡ n + 0 = omega arith in
+      ap (λ o. set o n (get_or s 0 0)) (paste-zero out n s) ∙ ap (λ i. set (paste out n s 0) i (get_or s 0 0)) e
+      ∙ paste_more out n s 0 0 (omega arith) (omega arith)
+
+  pub pasted_two : n + 2 ≤ length out → 2 ≤ length s → set (set out n (get_or s 0 0)) (n + 1) (get_or s 1 0) ≡ paste out n s 2
+  pasted_two h k =
+      ap (λ o. set o (n + 1) (get_or s 1 0)) (pasted_one (omega arith) (omega arith)) ∙ paste_more out n s 1 0 (omega arith) (omega arith)
+
+  pub pasted_three : n + 3 ≤ length out → 3 ≤ length s
+      → set (set (set out n (get_or s 0 0)) (n + 1) (get_or s 1 0)) (n + 2) (get_or s 2 0) ≡ paste out n s 3
+  pasted_three h k =
+      ap (λ o. set o (n + 2) (get_or s 2 0)) (pasted_two (omega arith) (omega arith)) ∙ paste_more out n s 2 0 (omega arith) (omega arith)
 
 -- The front is copied, and the rest is decoded behind it.
 module _ (raw plain others : List ℕ) (e : decoded raw ≡ plain ++ decoded others) (out : List ℕ)

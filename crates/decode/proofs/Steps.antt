@@ -116,3 +116,6 @@ module _ {x : ℕ} {left t : List ℕ} (e : left ≡ x ∷ t) where
   pub decoded_kept : {k : ℕ} {kept : List ℕ} → x ≡ 37 → Escapes t (Kept k) → kept ≡ take (k + 1) left → decoded left ≡ kept ++ decoded (drop (k + 1) left)
   unfolding rest
   decoded_kept p s q = rw (q, e, p, add-one) s.1
+
+  pub kept_within : {k : ℕ} → Escapes t (Kept k) → k + 1 ≤ length left
+  kept_within s = omega (arith, ap length e, s.0)

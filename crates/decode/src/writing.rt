@@ -17,22 +17,30 @@ fn put(out: &mut [u8], n: usize, bytes: &[u8])
     }
 }
 
-// The same for a '%' and what it swallows, one to three bytes, of which each costs less by itself than in a loop.
-fn put_kept(out: &mut [u8], n: usize, kept: &[u8])
-    requires { n + length kept.now ≤ length out.old }
-    ensures { out.new ≡ take n out.old ++ kept.now ++ drop (n + length kept.now) out.old }
+// Writes a failed escape at `n`: the '%' that `rest` begins with, and so many bytes after it. Answers what is left.
+// The arms say how far it goes by constants: a step that had to wait for the number would take half as long again.
+fn lay_kept<'a>(rest: &'a [u8], count: usize, out: &mut [u8], n: usize) -> &'a [u8]
+    requires { (count + 1 ≤ length rest.now) × (n + (count + 1) ≤ length out.old) }
+    ensures left { result.now ≡ drop (count + 1) rest.now }
+    ensures bytes { out.new ≡ take n out.old ++ take (count + 1) rest.now ++ drop (n + (count + 1)) out.old }
 {
-    match kept {
-        [a, b] => {
+    match rest {
+        [a, b, others @ ..] if count == 1 => {
             out[n] = *a;
             out[n + 1] = *b;
+            others
         }
-        [a, b, c] => {
+        [a, b, c, others @ ..] if count == 2 => {
             out[n] = *a;
             out[n + 1] = *b;
             out[n + 2] = *c;
+            others
         }
-        _ => put(out, n, kept),
+        _ => {
+            let (kept, others) = rest.split_at(count + 1);
+            put(out, n, kept);
+            others
+        }
     }
 }
 
@@ -60,10 +68,8 @@ fn lay(raw: &[u8], out: &mut [u8]) -> usize
                 rest = &after[2..];
             }
             Escape::Kept(count) => {
-                let (kept, others) = rest.split_at(count + 1);
-                put_kept(out, n, kept);
-                n += kept.len();
-                rest = others;
+                rest = lay_kept(rest, count, out, n);
+                n += count + 1;
             }
         }
     }

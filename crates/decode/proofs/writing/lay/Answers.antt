@@ -1,6 +1,7 @@
 -- Each step writes the bytes that are next.
-use Rattle.decode.proofs.Steps.{decoded_plain, decoded_byte, decoded_kept}
-use Rattle.decode.proofs.Laying.{laid-start, laid-room, laid_more, laid-fits, laid_put, laid_done}
+use mathlib.Core.Path.{refl}
+use Rattle.decode.proofs.Steps.{decoded_plain, decoded_byte, decoded_kept, kept_within}
+use Rattle.decode.proofs.Laying.{laid-start, laid-room, laid_more, laid-kept, laid_kept, laid_done}
 use Rattle.decode.proofs.writing.lay.Goals as goal
 
 pub loop-b-init : goal.loop-b-init
@@ -24,15 +25,17 @@ loop-b-preserved-in-Byte c =
     let e = decoded_byte c.in-Some.ensures.cases.0 c.if-b-ne37.false c.in-Byte.ensures in
     laid_more c.loop-b.invariant _ _ e (laid-room c.loop-b.invariant _ _ e c.requires)
 
-pub put_kept-requires : goal.put_kept-requires
-put_kept-requires c =
-    let e = decoded_kept c.in-Some.ensures.cases.0 c.if-b-ne37.false c.in-Kept.ensures c.split_at.ensures.front in
-    laid-fits c.loop-b.invariant _ _ e c.requires
+pub lay_kept-rest-requires : goal.lay_kept-rest-requires
+lay_kept-rest-requires c =
+    let k = kept_within c.in-Some.ensures.cases.0 c.in-Kept.ensures in
+    let e = decoded_kept c.in-Some.ensures.cases.0 c.if-b-ne37.false c.in-Kept.ensures refl in
+    (k, laid-kept c.loop-b.invariant _ e k c.requires)
 
 pub loop-b-preserved : goal.loop-b-preserved
 loop-b-preserved c =
-    let e = decoded_kept c.in-Some.ensures.cases.0 c.if-b-ne37.false c.in-Kept.ensures c.split_at.ensures.front in
-    rw (c.put_kept.ensures, c.split_at.ensures.back) (laid_put c.loop-b.invariant _ _ e (laid-fits c.loop-b.invariant _ _ e c.requires))
+    let k = kept_within c.in-Some.ensures.cases.0 c.in-Kept.ensures in
+    let e = decoded_kept c.in-Some.ensures.cases.0 c.if-b-ne37.false c.in-Kept.ensures refl in
+    rw (c.lay_kept-rest.ensures.bytes, c.lay_kept-rest.ensures.left) (laid_kept c.loop-b.invariant _ e k c.requires)
 
 pub returns-clause-length : goal.returns-clause-length
 returns-clause-length c = (laid_done c.loop-b.invariant c.in_default.ensures.cases).0
